@@ -1,0 +1,12 @@
+pub mod Refusals
+pub mod Questions
+pub mod Messages
+pub mod Answers
+pub mod Layout
+pub mod Calls
+pub mod Survey
+pub mod Laws
+pub mod Tables
+pub mod Flat
+pub mod Lines
+pub mod Transcript
