@@ -40,7 +40,7 @@ unfolding FirstOf
 none-left n f = f
 
 -- a bag of one message is of no other
-one-bag : (m n : Msg) → ⟅ m ⟆ ≡ ⟅ n ⟆ → m ≡ n
+pub one-bag : (m n : Msg) → ⟅ m ⟆ ≡ ⟅ n ⟆ → m ≡ n
 one-bag m n e = go (Msg-discrete ℕ-discrete m n)
   where
     go : Dec (m ≡ n) → m ≡ n

@@ -313,7 +313,7 @@ module _ {D : Type 0} (L : Layout D) (W : Laws L) (d : D) where
       ∙ ap (λ (v : ℕ). post (DEC b c p) (unpost (INC-DEC a b p c) (send-T b p (v + 1) C))) (sym (sent L W d b p lb lp))
 
   -- a message of a slot is in transit
-  in-the-pool : (slot : ℕ) (m : Msg) → slot < slots d → meant (message d slot) ≡ ⟅ m ⟆ → m ∈ C .pool
+  pub in-the-pool : (slot : ℕ) (m : Msg) → slot < slots d → meant (message d slot) ≡ ⟅ m ⟆ → m ∈ C .pool
   unfolding configOf
   in-the-pool slot m l e =
       let here : meant (message d slot) m ≡ 1 = ap (λ (M : Bag). M m) e ∙ one-same m in

@@ -11,5 +11,7 @@ pub mod PoolLaws
 pub mod MeaningLaws
 pub mod Demand2
 pub mod Converse
+pub mod HeldLaws
+pub mod Demand3
 pub mod Fourteen
 pub mod FlatLaws
