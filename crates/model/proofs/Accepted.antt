@@ -21,7 +21,8 @@ use Rattle.model.specs.Laws.{Laws}
 use Rattle.model.specs.Demands.{Row, _because_, FirstOf, NoSlotEmpty, lentRows, copyRows, deleteRows, rowsOf}
 use Rattle.model.proofs.TestLaws.{true-not-false, when-not, or-else-none}
 use Rattle.model.proofs.QuestionLaws.{lowest-has, lowest-most}
-use Rattle.model.proofs.Exactly.{none-lowest, copy-exactly, delete-exactly}
+use Rattle.model.proofs.RowLaws.{none-lowest}
+use Rattle.model.proofs.Exactly.{copy-exactly, delete-exactly}
 
 -- a table that gives 0: its first reason does not hold, and the rest gives 0
 first-fails : (k : ℕ) (reason : Type 0) (rows : List Row) → FirstOf (suc k because reason ∷ rows) 0 → (reason → ⊥) × FirstOf rows 0

@@ -27,7 +27,8 @@ use Rattle.model.specs.Demands.{Row, _because_, FirstOf, NoSlotEmpty, So
 use Rattle.model.proofs.TestLaws.{true-not-false, when-not, or-else-none}
 use Rattle.model.proofs.PoolLaws.{term-in-total}
 use Rattle.model.proofs.Exactly.{call-exactly}
-use Rattle.model.proofs.Demand2.{sent, holds}
+use Rattle.model.proofs.KeptLaws.{sent, holds}
+use Rattle.model.proofs.ReceiveTransition.{one-bag}
 
 -- a row whose reason does not hold is passed over
 passed-over : (k : ℕ) (reason : Type 0) (rows : List Row) (n : ℕ) → (reason → ⊥) → FirstOf (k because reason ∷ rows) n → FirstOf rows n
@@ -38,14 +39,6 @@ passed-over k reason rows n h (inr f) = f .1
 none-left : (n : ℕ) → FirstOf [] n → n ≡ 0
 unfolding FirstOf
 none-left n f = f
-
--- a bag of one message is of no other
-pub one-bag : (m n : Msg) → ⟅ m ⟆ ≡ ⟅ n ⟆ → m ≡ n
-one-bag m n e = go (Msg-discrete ℕ-discrete m n)
-  where
-    go : Dec (m ≡ n) → m ≡ n
-    go (yes q) = q
-    go (no apart) = absurd (omega (arith, ap (λ (M : Bag). M n) e, one-other m n apart, one-same n))
 
 -- a slot that means one message is not empty
 not-empty : (x : Posted) (m : Msg) → meant x ≡ ⟅ m ⟆ → isNothing x ≡ true → ⊥
@@ -90,7 +83,7 @@ module _ {D : Type 0} (L : Layout D) (W : Laws L) (guard : (d : D) (slot : ℕ) 
 
       reaches : (from ≡ meaning L d .owner p) ⊎ (meaning L d .rec from p ≡ true) → (from ≢ owner d p) × (cell d from p ≡ 0) → ⊥
       reaches (inl q) why = why .0 q
-      reaches (inr t) why = omega (arith, eqb-true (cell d from p) 1 (sym (holds L W d from p lf lp) ∙ t), why .1)
+      reaches (inr t) why = omega (arith, eqb-true (cell d from p) 1 (sym (holds L d from p lf lp) ∙ t), why .1)
 
   -- Where the machine permits DELETE, the names are in range and a slot is empty, delete is accepted.
   pub delete-permitted : (d : D) (site p slot : ℕ) → lentRefusal L d ≡ 0 → site < sites d → p < pointers d → MayDelete site p (meaning L d)
@@ -100,8 +93,8 @@ module _ {D : Type 0} (L : Layout D) (W : Laws L) (guard : (d : D) (slot : ℕ) 
       let n = step L d (Delete site p) .answer .number in
       none-left n
       (passed-over 7 (NoSlotEmpty L d) _ n (λ full. true-not-false (sym free ∙ full slot lk))
-      (passed-over 12 (counter d site p ≢ 0) _ n (λ why. why (sym (sent L W d site p ls lp) ∙ may .unsent))
-      (passed-over 5 (cell d site p ≡ 0) _ n (λ z. omega (arith, eqb-true (cell d site p) 1 (sym (holds L W d site p ls lp) ∙ may .held)))
+      (passed-over 12 (counter d site p ≢ 0) _ n (λ why. why (sym (sent L d site p ls lp) ∙ may .unsent))
+      (passed-over 5 (cell d site p ≡ 0) _ n (λ z. omega (arith, eqb-true (cell d site p) 1 (sym (holds L d site p ls lp) ∙ may .held)))
       (passed-over 11 (site ≡ owner d p) _ n (λ q. may .other (sym q))
       (passed-over 3 ((sites d ≤ site) ⊎ (pointers d ≤ p)) _ n in-range
       (lent-passed d (deleteRows L d site p) n e (call-exactly L guard d (Delete site p))))))))

@@ -26,23 +26,15 @@ use Rattle.model.specs.Demands.{names, Reached, opened, called, Quiet}
 use Rattle.model.proofs.TestLaws.{true-not-false, when-not, or-else-none}
 use Rattle.model.proofs.PoolLaws.{total-of-zeros}
 use Rattle.model.proofs.MeaningLaws.{opening-means}
-use Rattle.model.proofs.Accepted.{Received, receive-accepted}
 use Rattle.model.proofs.Demand1.{ask-changes-nothing}
-use Rattle.model.proofs.Demand2.{Kept, sent, holds, in-the-pool, copy-is-MAKE-COPY, delete-is-DELETE, receive-is-RECEIVE}
-use Rattle.model.proofs.Converse.{one-bag}
+use Rattle.model.proofs.KeptLaws.{Kept, sent, holds}
+use Rattle.model.proofs.CopyAndDelete.{copy-is-MAKE-COPY, delete-is-DELETE}
+use Rattle.model.proofs.ReceiveTransition.{in-the-pool, receive-is-RECEIVE}
 
 -- an outcome's desk, by whether the call is refused
 by-number : {D : Type 0} (P : D → Type 0) (n : ℕ) (d : D) (o : Outcome D) → P d → (n ≡ 0 → P (o .desk)) → P (unless n d o .desk)
 by-number P zero d o same new = new refl
 by-number P (suc n) d o same new = same
-
--- the slot whose bag is one DEC holds that DEC
-dec-stands : (x : Posted) (a b p : ℕ) → meant x ≡ ⟅ DEC a b p ⟆ → x ≡ Decr a b p
-unfolding meant
-dec-stands (Copy x y q) a b p e = let f = one-bag (COPY x y q) (DEC a b p) e in let z : _≡_ {A = ℕ} 0 1 = cc in absurd (omega arith)
-dec-stands (Decr x y q) a b p e = let f = one-bag (DEC x y q) (DEC a b p) e in cc
-dec-stands (IncDec x y z q) a b p e = let f = one-bag (INC-DEC x y q z) (DEC a b p) e in let z : _≡_ {A = ℕ} 0 1 = cc in absurd (omega arith)
-dec-stands Nothing a b p e = absurd (omega (arith, ap (λ (M : Bag). M (DEC a b p)) e, one-same (DEC a b p)))
 
 -- an accepted call's outcome
 at-zero : {D : Type 0} (n : ℕ) (d : D) (o : Outcome D) → n ≡ 0 → unless n d o ≡ o
@@ -82,11 +74,11 @@ module _ {D : Type 0} (L : Layout D) (W : Laws L) where
     unfolding configOf
     quiet-means =
         ((λ quiet. record {
-          no-holder = λ s ls apart. off s ls (sym (holds L W d s p ls lp) ∙ quiet .no-holder s ls apart);
+          no-holder = λ s ls apart. off s ls (sym (holds L d s p ls lp) ∙ quiet .no-holder s ls apart);
           no-message = λ slot l. unnamed (message d slot) slot l refl quiet;
         }),
         (λ quiet. record {
-          no-holder = λ s ls apart. holds L W d s p ls lp ∙ ap (λ (n : ℕ). eqb n 1) (quiet .no-holder s ls apart);
+          no-holder = λ s ls apart. holds L d s p ls lp ∙ ap (λ (n : ℕ). eqb n 1) (quiet .no-holder s ls apart);
           no-message = λ m about. total-of-zeros (slots d) (λ slot. meant (message d slot) m) (λ slot l. elsewhere (message d slot) m about (quiet .no-message slot l));
         }))
       where
@@ -115,19 +107,15 @@ module _ {D : Type 0} (L : Layout D) (W : Laws L) where
     unfolding step makeCopy receive delete configOf
     sound-call d r s (MakeCopy from to p) = by-number Sound (copyNumber L d from to p) d (copied L d from to p) s (λ e.
         let c = copy-is-MAKE-COPY L W d from to p e in
-        record { good = c .kept .good; reachable = subst (Reachable WeakGuard) (sym (c .after)) (onward (s .reachable) (make-copy from to p (c .from-site) (c .to-site) (c .a-pointer) (c .may))) })
+        let i = c .0 .in-range in
+        record { good = c .1 .good; reachable = subst (Reachable WeakGuard) (sym (c .0 .after)) (onward (s .reachable) (make-copy from to p (i .0) (i .1) (i .2) (c .0 .may))) })
     sound-call d r s (Receive slot) = by-number Sound (receiveNumber L d slot) d (received L d slot) s (λ e.
-        let c = receive-is-RECEIVE L W d slot e in
-        let t = receive-accepted L W d slot e in
-        record {
-          good = c .kept .good;
-          reachable = subst (Reachable WeakGuard) (sym (c .after))
-              (onward (s .reachable) (receives (c .m) (c .in-transit)
-              (λ a b p q. guarded d r slot a b p (t .in-pool) (dec-stands (message d slot) a b p (c .stands ∙ ap ⟅_⟆ q)) (t .in-time)) (c .may)));
-        })
+        let c = receive-is-RECEIVE L W d WeakGuard slot e (λ a b p. guarded d r slot a b p) in
+        record { good = c .1 .good; reachable = subst (Reachable WeakGuard) (sym (c .0 .after)) (onward (s .reachable) (receives (c .0 .m) (c .0 .in-transit) (c .0 .guard) (c .0 .may))) })
     sound-call d r s (Delete site p) = by-number Sound (deleteNumber L d site p) d (deleted L d site p) s (λ e.
         let c = delete-is-DELETE L W d site p e in
-        record { good = c .kept .good; reachable = subst (Reachable WeakGuard) (sym (c .after)) (onward (s .reachable) (deletes site p (c .a-site) (c .a-pointer) (c .may))) })
+        let i = c .0 .in-range in
+        record { good = c .1 .good; reachable = subst (Reachable WeakGuard) (sym (c .0 .after)) (onward (s .reachable) (deletes site p (i .0) (i .1) (c .0 .may))) })
     sound-call d r s (Ask site p) = subst Sound (sym (ask-changes-nothing L d site p)) s
 
     sound : {d : D} → Reached L d → Sound d
@@ -141,7 +129,7 @@ module _ {D : Type 0} (L : Layout D) (W : Laws L) where
       counter-zero-iff-quiet {d} r p lp =
           let s = sound r in
           let own = W .owner-inside d (s .good) p lp in
-          let same = sent L W d (owner d p) p own lp in
+          let same = sent L d (owner d p) p own lp in
           let machine = safe (meaning L d) (s .reachable) p lp in
           let look = quiet-means d p (s .good) lp in
           ((λ z. look .0 (machine .0 (same ∙ z))), (λ quiet. sym same ∙ machine .1 (look .1 quiet)))

@@ -5,6 +5,9 @@ use mathlib.Core.Logic.{_≢_, _⊎_}
 use mathlib.Core.Bool.{Bool, true, false}
 use mathlib.Core.List.{List, [], _∷_}
 use lib.Dec.{eqb}
+use Rattle.moreau.specs.StateSpace.{Msg, DEC, ⟅_⟆, _∈_}
+use Rattle.moreau.specs.Transformers.{unpost, MayCopy, MAKE-COPY, MayReceive, RECEIVE, MayDelete, DELETE}
+use Rattle.moreau.specs.Transitions.{Guard}
 use Rattle.model.specs.declared.Posted.{Posted}
 use Rattle.model.specs.declared.Posted.the-variants.{Copy, Dec, IncDec, Nothing}
 use Rattle.model.specs.declared.Call.{Call}
@@ -12,6 +15,7 @@ use Rattle.model.specs.declared.Call.the-variants.{MakeCopy, Receive, De
 use Rattle.model.specs.Refusals.{BadShape, BadTable, BadName, SameSite, NotHeld, CounterFull, PoolFull, EmptySlot, Held, CounterZero, IsOwner, StillCounted, NotOwner}
 use Rattle.model.specs.Layout.{Layout}
 use Rattle.model.specs.Calls.{openRefusal, openDesk, step}
+use Rattle.model.specs.Meaning.{meant, meaning}
 
 -- ---- why a call is turned down: a table of numbers and reasons
 pub record Row : Type 1 where
@@ -123,6 +127,26 @@ module _ {D : Type 0} (L : Layout D) where
   -- the rows of a call: 1, 2, then its own
   abbrev pub rowsOf : D → Call → List Row
   rowsOf d c = lentRows d (ownRowsOf d c)
+
+  -- ---- e is d after a transition of the published machine, on what the memory means: every counter, every cell, every message
+  pub record MakesCopy (d e : D) (from to p : ℕ) : Type 0 where
+    pub in-range : (from < sites d) × (to < sites d) × (p < pointers d)
+    pub may : MayCopy from to p (meaning L d)
+    pub after : meaning L e ≡ MAKE-COPY from to p (meaning L d)
+
+  -- the message m of the slot is in transit, passes the guard, and may be received
+  pub record Receives (May : Guard) (d e : D) (slot : ℕ) : Type 0 where
+    pub m : Msg
+    pub stands : meant (message d slot) ≡ ⟅ m ⟆
+    pub in-transit : m ∈ meaning L d .pool
+    pub guard : (a b p : ℕ) → m ≡ DEC a b p → May (meaning L d) a b p
+    pub may : MayReceive m
+    pub after : meaning L e ≡ RECEIVE m (unpost m (meaning L d))
+
+  pub record Deletes (d e : D) (site p : ℕ) : Type 0 where
+    pub in-range : (site < sites d) × (p < pointers d)
+    pub may : MayDelete site p (meaning L d)
+    pub after : meaning L e ≡ DELETE site p (meaning L d)
 
   -- ---- from an opened desk, after any calls in any order: an accepted opening, then calls with any arguments, accepted or refused
   pub data Reached : D → Type 0 where
