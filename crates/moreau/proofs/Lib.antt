@@ -1,0 +1,5 @@
+pub mod Sums
+pub mod Bags
+pub mod Totals
+pub mod TransformerLaws
+pub mod Frame
