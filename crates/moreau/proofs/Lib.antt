@@ -3,3 +3,4 @@ pub mod Bags
 pub mod Totals
 pub mod TransformerLaws
 pub mod Frame
+pub mod Messages
