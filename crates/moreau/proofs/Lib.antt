@@ -4,3 +4,10 @@ pub mod Totals
 pub mod TransformerLaws
 pub mod Frame
 pub mod Messages
+pub mod Invariant
+pub mod OneMessage
+pub mod Ledger
+pub mod Shares
+pub mod Steps
+pub mod Reached
+pub mod Guards
