@@ -11,3 +11,6 @@ pub mod Shares
 pub mod Steps
 pub mod Reached
 pub mod Guards
+pub mod Counters
+pub mod Quiet
+pub mod WithoutGuard
