@@ -14,9 +14,9 @@ pub mod KeptLaws
 pub mod CopyAndDelete
 pub mod ReceiveWrites
 pub mod ReceiveTransition
+pub mod HeldLaws
 pub mod Converse
 pub mod Demand2
-pub mod HeldLaws
 pub mod Demand3
 pub mod Fourteen
 pub mod FlatLaws

@@ -1,0 +1,16 @@
+pub mod Sums
+pub mod Bags
+pub mod Totals
+pub mod TransformerLaws
+pub mod Frame
+pub mod Messages
+pub mod Invariant
+pub mod OneMessage
+pub mod Ledger
+pub mod Shares
+pub mod Steps
+pub mod Reached
+pub mod Guards
+pub mod Counters
+pub mod Quiet
+pub mod WithoutGuard
