@@ -8,7 +8,7 @@ use native.Mathlib.Decide.{ℕ-discrete}
 use native.Mathlib.Omega.{arith}
 use lib.Dec.{leb, ltb, eqb}
 use borrow.Author.Tests.{not-false, eqb-true}
-use Rattle.moreau.specs.StateSpace.{Msg, COPY, DEC, INC-DEC, Msg-discrete, Bag, ⟅_⟆}
+use Rattle.moreau.specs.StateSpace.{Msg, COPY, DEC, INC-DEC, Msg-discrete, BagOf, ⟅_⟆}
 use Rattle.moreau.specs.Transformers.{MayCopy, MayReceive, MayDelete}
 use Rattle.moreau.specs.Transitions.{PaperGuard}
 use Rattle.moreau.proofs.Bags.{one-same, one-other}
@@ -46,7 +46,7 @@ unfolding meant
 not-empty (Copy a b p) m q e = true-not-false (sym e)
 not-empty (Decr a b p) m q e = true-not-false (sym e)
 not-empty (IncDec a b c p) m q e = true-not-false (sym e)
-not-empty Nothing m q e = omega (arith, ap (λ (M : Bag). M m) q, one-same m)
+not-empty Nothing m q e = omega (arith, ap (λ (M : BagOf Msg). M m) q, one-same m)
 
 too-large : {a n : ℕ} → a < n → n ≤ a → ⊥
 too-large l h = omega arith
@@ -122,7 +122,7 @@ module _ {D : Type 0} (L : Layout D) (W : Laws L) (guard : (d : D) (slot : ℕ) 
         none-left n (passed-over 10 (counter d b p ≡ 0) _ n (λ z. omega (arith, lowered a b p e)) (passed-over 9 (SomeIncDec L d a b p) _ n (no-inc-dec a b p (held a b p e)) f))
     own-passed (IncDec a b c p) m n q may held lowered raised f =
         none-left n (passed-over 6 (counter d b p ≡ 65535) _ n (λ z. omega (arith, raised a b p c (sym (one-bag (INC-DEC a b p c) m q)))) f)
-    own-passed Nothing m n q may held lowered raised f = absurd (omega (arith, ap (λ (M : Bag). M m) q, one-same m))
+    own-passed Nothing m n q may held lowered raised f = absurd (omega (arith, ap (λ (M : BagOf Msg). M m) q, one-same m))
 
   -- Where the machine permits RECEIVE of the message of a slot, a counter to be lowered stands above 0 and one to be raised below 65,535, receive is accepted.
   pub receive-permitted : (d : D) (slot : ℕ) (m : Msg) → lentRefusal L d ≡ 0 → slot < slots d → meant (message d slot) ≡ ⟅ m ⟆ → MayReceive m

@@ -6,7 +6,7 @@ use mathlib.Core.Bool.{Bool, true, false}
 use native.Mathlib.Omega.{arith}
 use borrow.Author.Tests.{eq-eqb}
 use Rattle.moreau.specs.StateSpace.{Msg, COPY, DEC, Config}
-use Rattle.moreau.specs.Transformers.{send-T, rec-T, post, MayCopy, MAKE-COPY, MayDelete, DELETE}
+use Rattle.moreau.specs.Transformers.{send-T_≔_, rec-T_≔_, post, MayCopy, MAKE-COPY, MayDelete, DELETE}
 use Rattle.model.specs.declared.Posted.{Posted}
 use Rattle.model.specs.declared.Posted.the-variants.{Copy, Dec as Decr, Nothing}
 use Rattle.model.specs.Layout.{Layout}
@@ -41,7 +41,7 @@ module _ {D : Type 0} (L : Layout D) (W : Laws L) where
             slot-means L W raised k m (r1 .good) in-pool inside
             ∙ ap (λ (x : Posted). posted m (taken x (meaning L raised))) (r1 .as-messages k (c .room .in-pool) ∙ c .room .unused)
             ∙ ap (post (COPY from to p)) (counter-means L W d from p n (c .good) (c .from-site) (c .a-pointer))
-            ∙ ap (λ (v : ℕ). post (COPY from to p) (send-T from p (v + 1) (meaning L d))) (sym (sent L d from p (c .from-site) (c .a-pointer)));
+            ∙ ap (λ (v : ℕ). post (COPY from to p) ((send-T (from, p) ≔ v + 1) (meaning L d))) (sym (sent L d from p (c .from-site) (c .a-pointer)));
       }, kept-then L k1 (kept-by L (W .posts raised k m (r1 .good) in-pool inside)))
     where
       access : from < sites d → p < pointers d → (from ≡ owner d p) ⊎ (cell d from p ≡ 1) → (from ≡ meaning L d .owner p) ⊎ (meaning L d .rec from p ≡ true)
@@ -77,5 +77,5 @@ module _ {D : Type 0} (L : Layout D) (W : Laws L) where
       other : site ≢ owner d p → meaning L d .owner p ≢ site
       other apart q = apart (sym q)
 
-      same-owner : post (DEC site (owner d p) p) (rec-T site p false (meaning L d)) ≡ DELETE site p (meaning L d)
+      same-owner : post (DEC site (owner d p) p) ((rec-T (site, p) ≔ false) (meaning L d)) ≡ DELETE site p (meaning L d)
       same-owner = refl

@@ -7,7 +7,7 @@ use native.Mathlib.Decide.{ℕ-discrete}
 use native.Mathlib.Omega.{arith}
 use lib.Dec.{ltb, eqb}
 use borrow.Author.Tests.{eq-eqb, ne-eqb, eqb-true, eqb-false, lt-ltb, not-false}
-use Rattle.moreau.specs.StateSpace.{Msg, COPY, DEC, INC-DEC, pointer, Bag, ⟅_⟆, Config, initial, _∈_, _∉_}
+use Rattle.moreau.specs.StateSpace.{Msg, COPY, DEC, INC-DEC, pointer, BagOf, ⟅_⟆, Config, initial, _∈_, _∉_}
 use Rattle.moreau.specs.Transitions.{Guard, WeakGuard, Transition, Reachable, begin, step as onward, make-copy, receive as receives, delete as deletes}
 use Rattle.moreau.specs.Claims.{Quiet as QuietConfig}
 use Rattle.moreau.proofs.Bags.{one-same, one-elsewhere}

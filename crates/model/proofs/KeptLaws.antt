@@ -5,7 +5,7 @@ use mathlib.Core.Bool.{Bool}
 use native.Mathlib.Decide.{ℕ-discrete}
 use lib.Dec.{eqb}
 use Rattle.moreau.specs.StateSpace.{Config}
-use Rattle.moreau.specs.Transformers.{assign, send-T, rec-T}
+use Rattle.moreau.specs.Transformers.{assign, send-T_≔_, rec-T_≔_}
 use Rattle.moreau.proofs.TransformerLaws.{assign-here, assign-site, assign-pointer}
 use Rattle.model.specs.declared.Posted.{Posted}
 use Rattle.model.specs.Layout.{Layout}
@@ -24,10 +24,10 @@ assign-same T s p v e = fun-ext (λ t. fun-ext (λ q. go t q (ℕ-discrete s t) 
     go t q (no apart) _ = assign-site T s p v t q apart
 
 -- an assignment of what stands there already leaves a configuration
-pub same-send : (C : Config) (s p v : ℕ) → C .send s p ≡ v → send-T s p v C ≡ C
+pub same-send : (C : Config) (s p v : ℕ) → C .send s p ≡ v → (send-T (s, p) ≔ v) C ≡ C
 same-send C s p v e = ap (λ (T : ℕ → ℕ → ℕ). record { sites = C .sites; pointers = C .pointers; owner = C .owner; send = T; rec = C .rec; pool = C .pool }) (assign-same (C .send) s p v e)
 
-pub same-rec : (C : Config) (s p : ℕ) (v : Bool) → C .rec s p ≡ v → rec-T s p v C ≡ C
+pub same-rec : (C : Config) (s p : ℕ) (v : Bool) → C .rec s p ≡ v → (rec-T (s, p) ≔ v) C ≡ C
 same-rec C s p v e = ap (λ (T : ℕ → ℕ → Bool). record { sites = C .sites; pointers = C .pointers; owner = C .owner; send = C .send; rec = T; pool = C .pool }) (assign-same (C .rec) s p v e)
 
 module _ {D : Type 0} (L : Layout D) where

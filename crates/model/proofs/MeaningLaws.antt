@@ -7,8 +7,8 @@ use native.Mathlib.Decide.{ℕ-discrete}
 use native.Mathlib.Omega.{arith}
 use lib.Dec.{ltb, eqb}
 use borrow.Author.Tests.{eq-eqb, ne-eqb, ltb-true, lt-ltb}
-use Rattle.moreau.specs.StateSpace.{Msg, COPY, DEC, INC-DEC, Bag, Config, _∪_, _∖_, initial}
-use Rattle.moreau.specs.Transformers.{assign, send-T, rec-T, post, unpost}
+use Rattle.moreau.specs.StateSpace.{Msg, COPY, DEC, INC-DEC, BagOf, Config, _∪_, _∖_, initial}
+use Rattle.moreau.specs.Transformers.{assign, send-T_≔_, rec-T_≔_, post, unpost}
 use Rattle.moreau.proofs.TransformerLaws.{assign-here, assign-site, assign-pointer}
 use Rattle.model.specs.declared.Posted.{Posted}
 use Rattle.model.specs.declared.Posted.the-variants.{Copy, Dec as Decr, IncDec, Nothing}
@@ -77,7 +77,7 @@ taken (IncDec from to third p) D = unpost (INC-DEC from to p third) D
 taken Nothing D = D
 
 -- a configuration with another pool
-abbrev withPool : Config → Bag → Config
+abbrev withPool : Config → BagOf Msg → Config
 withPool D M = record { sites = D .sites; pointers = D .pointers; owner = D .owner; send = D .send; rec = D .rec; pool = M }
 
 posted-pool : (m : Posted) (D : Config) → withPool D (D .pool ∪ meant m) ≡ posted m D
@@ -141,7 +141,7 @@ module _ {D : Type 0} (L : Layout D) where
         owns s o true = bit (eqb s o) ∙ eqb-swapped s o
         owns s o false = refl
 
-    pub counter-means : (d : D) (s p n : ℕ) → lentRefusal L d ≡ 0 → s < sites d → p < pointers d → meaning L (setCounter d s p n) ≡ send-T s p n (meaning L d)
+    pub counter-means : (d : D) (s p n : ℕ) → lentRefusal L d ≡ 0 → s < sites d → p < pointers d → meaning L (setCounter d s p n) ≡ (send-T (s, p) ≔ n) (meaning L d)
     unfolding configOf
     counter-means d s p n e ls lp =
         reads-mean d (setCounter d s p n) (W .sets-counter d s p n e ls lp)
@@ -154,7 +154,7 @@ module _ {D : Type 0} (L : Layout D) where
             pool = meaning L d .pool;
           })
 
-    pub cell-means : (d : D) (s p n : ℕ) → lentRefusal L d ≡ 0 → s < sites d → p < pointers d → n ≤ 1 → meaning L (setCell d s p n) ≡ rec-T s p (eqb n 1) (meaning L d)
+    pub cell-means : (d : D) (s p n : ℕ) → lentRefusal L d ≡ 0 → s < sites d → p < pointers d → n ≤ 1 → meaning L (setCell d s p n) ≡ (rec-T (s, p) ≔ eqb n 1) (meaning L d)
     unfolding configOf
     cell-means d s p n e ls lp ln =
         reads-mean d (setCell d s p n) (W .sets-cell d s p n e ls lp ln)

@@ -7,8 +7,8 @@ use native.Mathlib.Decide.{ℕ-discrete}
 use native.Mathlib.Omega.{arith}
 use lib.Dec.{eqb}
 use borrow.Author.Tests.{eq-eqb, ne-eqb, eqb-false}
-use Rattle.moreau.specs.StateSpace.{Msg, Msg-discrete, COPY, DEC, INC-DEC, Bag, ⟅_⟆, Config, _∈_}
-use Rattle.moreau.specs.Transformers.{send-T, rec-T, post, unpost, MayReceive, RECEIVE}
+use Rattle.moreau.specs.StateSpace.{Msg, Msg-discrete, COPY, DEC, INC-DEC, BagOf, ⟅_⟆, Config, _∈_}
+use Rattle.moreau.specs.Transformers.{if_then_else_, _provided_, send-T_≔_, rec-T_≔_, post, unpost, MayReceive, RECEIVE}
 use Rattle.moreau.specs.Transitions.{Guard}
 use Rattle.moreau.proofs.Bags.{one-same, one-other}
 use Rattle.model.specs.declared.Posted.{Posted}
@@ -32,7 +32,7 @@ one-bag m n e = go (Msg-discrete ℕ-discrete m n)
   where
     go : Dec (m ≡ n) → m ≡ n
     go (yes q) = q
-    go (no apart) = absurd (omega (arith, ap (λ (M : Bag). M n) e, one-other m n apart, one-same n))
+    go (no apart) = absurd (omega (arith, ap (λ (M : BagOf Msg). M n) e, one-other m n apart, one-same n))
 
 -- the slot whose bag is one DEC holds that DEC
 pub dec-stands : (x : Posted) (a b p : ℕ) → meant x ≡ ⟅ DEC a b p ⟆ → x ≡ Decr a b p
@@ -40,16 +40,19 @@ unfolding meant
 dec-stands (Copy x y q) a b p e = let f = one-bag (COPY x y q) (DEC a b p) e in let z : _≡_ {A = ℕ} 0 1 = cc in absurd (omega arith)
 dec-stands (Decr x y q) a b p e = let f = one-bag (DEC x y q) (DEC a b p) e in cc
 dec-stands (IncDec x y z q) a b p e = let f = one-bag (INC-DEC x y q z) (DEC a b p) e in let z : _≡_ {A = ℕ} 0 1 = cc in absurd (omega arith)
-dec-stands Nothing a b p e = absurd (omega (arith, ap (λ (M : Bag). M (DEC a b p)) e, one-same (DEC a b p)))
+dec-stands Nothing a b p e = absurd (omega (arith, ap (λ (M : BagOf Msg). M (DEC a b p)) e, one-same (DEC a b p)))
 
 -- ---- a COPY in Figure 9, by what its receiver holds and who sent it
 receive-held : (C : Config) (a b p : ℕ) → C .rec b p ≡ true → RECEIVE (COPY a b p) C ≡ post (DEC b a p) C
+unfolding if_then_else_ _provided_
 receive-held C a b p e = rw e
 
-receive-home : (C : Config) (a b p : ℕ) → C .rec b p ≡ false → a ≡ C .owner p → RECEIVE (COPY a b p) C ≡ rec-T b p true C
+receive-home : (C : Config) (a b p : ℕ) → C .rec b p ≡ false → a ≡ C .owner p → RECEIVE (COPY a b p) C ≡ (rec-T (b, p) ≔ true) C
+unfolding if_then_else_ _provided_
 receive-home C a b p e q = rw (e, eq-eqb a (C .owner p) q)
 
-receive-away : (C : Config) (a b p : ℕ) → C .rec b p ≡ false → a ≢ C .owner p → RECEIVE (COPY a b p) C ≡ post (INC-DEC b (C .owner p) p a) (rec-T b p true C)
+receive-away : (C : Config) (a b p : ℕ) → C .rec b p ≡ false → a ≢ C .owner p → RECEIVE (COPY a b p) C ≡ post (INC-DEC b (C .owner p) p a) ((rec-T (b, p) ≔ true) C)
+unfolding if_then_else_ _provided_
 receive-away C a b p e apart = rw (e, ne-eqb a (C .owner p) apart)
 
 module _ {D : Type 0} (L : Layout D) (W : Laws L) (d : D) where
@@ -64,42 +67,42 @@ module _ {D : Type 0} (L : Layout D) (W : Laws L) (d : D) where
 
   copy-handled : (a b p : ℕ) → b < sites d → p < pointers d → handledAs L W d (Copy a b p) ≡ RECEIVE (COPY a b p) (unpost (COPY a b p) C)
   copy-handled a b p lb lp =
-      ap (λ (E : Config). posted (reply (Copy a b p) (cell d b p) (owner d p)) (unpost (COPY a b p) (rec-T b p true E))) (same-send C b p (counter d b p) (sent L d b p lb lp))
+      ap (λ (E : Config). posted (reply (Copy a b p) (cell d b p) (owner d p)) (unpost (COPY a b p) ((rec-T (b, p) ≔ true) E))) (same-send C b p (counter d b p) (sent L d b p lb lp))
       ∙ go (ℕ-discrete (cell d b p) 1) (ℕ-discrete a (owner d p))
     where
-      go : Dec (cell d b p ≡ 1) → Dec (a ≡ owner d p) → posted (reply (Copy a b p) (cell d b p) (owner d p)) (unpost (COPY a b p) (rec-T b p true C)) ≡ RECEIVE (COPY a b p) (unpost (COPY a b p) C)
+      go : Dec (cell d b p ≡ 1) → Dec (a ≡ owner d p) → posted (reply (Copy a b p) (cell d b p) (owner d p)) (unpost (COPY a b p) ((rec-T (b, p) ≔ true) C)) ≡ RECEIVE (COPY a b p) (unpost (COPY a b p) C)
       go (yes held) _ =
           let h : C .rec b p ≡ true = holds L d b p lb lp ∙ eq-eqb _ _ held in
-          ap (λ (t : Bool). posted (cond t (Decr b a p) (cond (eqb a (owner d p)) Nothing (IncDec b (owner d p) a p))) (unpost (COPY a b p) (rec-T b p true C))) (eq-eqb (cell d b p) 1 held)
+          ap (λ (t : Bool). posted (cond t (Decr b a p) (cond (eqb a (owner d p)) Nothing (IncDec b (owner d p) a p))) (unpost (COPY a b p) ((rec-T (b, p) ≔ true) C))) (eq-eqb (cell d b p) 1 held)
           ∙ ap (λ (E : Config). post (DEC b a p) (unpost (COPY a b p) E)) (same-rec C b p true h)
           ∙ sym (receive-held (unpost (COPY a b p) C) a b p h)
       go (no free) (yes home) =
           let h : C .rec b p ≡ false = holds L d b p lb lp ∙ ne-eqb _ _ free in
-          ap (λ (t : Bool). posted (cond t (Decr b a p) (cond (eqb a (owner d p)) Nothing (IncDec b (owner d p) a p))) (unpost (COPY a b p) (rec-T b p true C))) (ne-eqb (cell d b p) 1 free)
-          ∙ ap (λ (t : Bool). posted (cond t Nothing (IncDec b (owner d p) a p)) (unpost (COPY a b p) (rec-T b p true C))) (eq-eqb a (owner d p) home)
+          ap (λ (t : Bool). posted (cond t (Decr b a p) (cond (eqb a (owner d p)) Nothing (IncDec b (owner d p) a p))) (unpost (COPY a b p) ((rec-T (b, p) ≔ true) C))) (ne-eqb (cell d b p) 1 free)
+          ∙ ap (λ (t : Bool). posted (cond t Nothing (IncDec b (owner d p) a p)) (unpost (COPY a b p) ((rec-T (b, p) ≔ true) C))) (eq-eqb a (owner d p) home)
           ∙ sym (receive-home (unpost (COPY a b p) C) a b p h (home ∙ sym (owner-meant p)))
       go (no free) (no away) =
           let h : C .rec b p ≡ false = holds L d b p lb lp ∙ ne-eqb _ _ free in
-          ap (λ (t : Bool). posted (cond t (Decr b a p) (cond (eqb a (owner d p)) Nothing (IncDec b (owner d p) a p))) (unpost (COPY a b p) (rec-T b p true C))) (ne-eqb (cell d b p) 1 free)
-          ∙ ap (λ (t : Bool). posted (cond t Nothing (IncDec b (owner d p) a p)) (unpost (COPY a b p) (rec-T b p true C))) (ne-eqb a (owner d p) away)
-          ∙ ap (λ (o : ℕ). post (INC-DEC b o p a) (unpost (COPY a b p) (rec-T b p true C))) (sym (owner-meant p))
+          ap (λ (t : Bool). posted (cond t (Decr b a p) (cond (eqb a (owner d p)) Nothing (IncDec b (owner d p) a p))) (unpost (COPY a b p) ((rec-T (b, p) ≔ true) C))) (ne-eqb (cell d b p) 1 free)
+          ∙ ap (λ (t : Bool). posted (cond t Nothing (IncDec b (owner d p) a p)) (unpost (COPY a b p) ((rec-T (b, p) ≔ true) C))) (ne-eqb a (owner d p) away)
+          ∙ ap (λ (o : ℕ). post (INC-DEC b o p a) (unpost (COPY a b p) ((rec-T (b, p) ≔ true) C))) (sym (owner-meant p))
           ∙ sym (receive-away (unpost (COPY a b p) C) a b p h (λ q. away (q ∙ owner-meant p)))
 
   dec-handled : (a b p : ℕ) → b < sites d → p < pointers d → handledAs L W d (Decr a b p) ≡ RECEIVE (DEC a b p) (unpost (DEC a b p) C)
   dec-handled a b p lb lp =
-      ap (λ (E : Config). unpost (DEC a b p) E) (same-rec (send-T b p (counter d b p - 1) C) b p (eqb (cell d b p) 1) (holds L d b p lb lp))
-      ∙ ap (λ (v : ℕ). unpost (DEC a b p) (send-T b p (v - 1) C)) (sym (sent L d b p lb lp))
+      ap (λ (E : Config). unpost (DEC a b p) E) (same-rec ((send-T (b, p) ≔ counter d b p - 1) C) b p (eqb (cell d b p) 1) (holds L d b p lb lp))
+      ∙ ap (λ (v : ℕ). unpost (DEC a b p) ((send-T (b, p) ≔ v - 1) C)) (sym (sent L d b p lb lp))
 
   inc-dec-handled : (a b c p : ℕ) → b < sites d → p < pointers d → handledAs L W d (IncDec a b c p) ≡ RECEIVE (INC-DEC a b p c) (unpost (INC-DEC a b p c) C)
   inc-dec-handled a b c p lb lp =
-      ap (λ (E : Config). post (DEC b c p) (unpost (INC-DEC a b p c) E)) (same-rec (send-T b p (counter d b p + 1) C) b p (eqb (cell d b p) 1) (holds L d b p lb lp))
-      ∙ ap (λ (v : ℕ). post (DEC b c p) (unpost (INC-DEC a b p c) (send-T b p (v + 1) C))) (sym (sent L d b p lb lp))
+      ap (λ (E : Config). post (DEC b c p) (unpost (INC-DEC a b p c) E)) (same-rec ((send-T (b, p) ≔ counter d b p + 1) C) b p (eqb (cell d b p) 1) (holds L d b p lb lp))
+      ∙ ap (λ (v : ℕ). post (DEC b c p) (unpost (INC-DEC a b p c) ((send-T (b, p) ≔ v + 1) C))) (sym (sent L d b p lb lp))
 
   -- a message of a slot is in transit
   pub in-the-pool : (slot : ℕ) (m : Msg) → slot < slots d → meant (message d slot) ≡ ⟅ m ⟆ → m ∈ C .pool
   unfolding configOf
   in-the-pool slot m l e =
-      let here : meant (message d slot) m ≡ 1 = ap (λ (M : Bag). M m) e ∙ one-same m in
+      let here : meant (message d slot) m ≡ 1 = ap (λ (M : BagOf Msg). M m) e ∙ one-same m in
       omega (arith, term-in-total (slots d) (λ i. meant (message d i) m) slot l)
 
   -- an accepted receive is RECEIVE of the message that stands in the slot, where that message passes the guard

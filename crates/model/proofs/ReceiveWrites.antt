@@ -5,7 +5,7 @@ use mathlib.Core.Bool.{Bool, true, false, cond}
 use native.Mathlib.Omega.{arith}
 use lib.Dec.{eqb}
 use Rattle.moreau.specs.StateSpace.{Config}
-use Rattle.moreau.specs.Transformers.{send-T, rec-T}
+use Rattle.moreau.specs.Transformers.{send-T_≔_, rec-T_≔_}
 use Rattle.model.specs.declared.Posted.{Posted}
 use Rattle.model.specs.declared.Posted.the-variants.{Copy, Dec as Decr, IncDec, Nothing}
 use Rattle.model.specs.Messages.{isNothing, receiver, pointerOf, counterAfter, cellAfter, reply}
@@ -27,7 +27,7 @@ module _ {D : Type 0} (L : Layout D) (W : Laws L) where
       let a = receiver x in
       let p = pointerOf x in
       posted (reply x (cell d a p) (owner d p))
-      (taken x (rec-T a p (eqb (cellAfter x (cell d a p)) 1) (send-T a p (counterAfter x (counter d a p)) (meaning L d))))
+      (taken x ((rec-T (a, p) ≔ eqb (cellAfter x (cell d a p)) 1) ((send-T (a, p) ≔ counterAfter x (counter d a p)) (meaning L d))))
 
   -- the receiver and the pointer of a message in range, the cell after it, and its reply's names
   inside-there : (S G : ℕ) (m : Posted) → isNothing m ≡ false → Inside S G m → (receiver m < S) × (pointerOf m < G)
@@ -110,6 +110,6 @@ module _ {D : Type 0} (L : Layout D) (W : Laws L) where
         ∙ ap (λ (y : Posted). posted (replied L d slot) (taken y (meaning L marked))) still-there
         ∙ ap (λ (C : Config). posted (replied L d slot) (taken x C))
           (cell-means L W counted site about _ (k2 .good) (kept-sites L k2 (there .0)) (kept-pointers L k2 (there .1)) bit
-          ∙ ap (rec-T site about (eqb (cellAfter x (cellThere L d slot)) 1))
+          ∙ ap (rec-T (site, about) ≔ eqb (cellAfter x (cellThere L d slot)) 1)
             (counter-means L W noted site about _ (k1 .good) (kept-sites L k1 (there .0)) (kept-pointers L k1 (there .1))
-            ∙ ap (send-T site about (counterAfter x (counterThere L d slot))) (handled-means L W d slot (c .good) (c .in-pool))))
+            ∙ ap (send-T (site, about) ≔ counterAfter x (counterThere L d slot)) (handled-means L W d slot (c .good) (c .in-pool))))

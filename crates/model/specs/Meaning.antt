@@ -2,14 +2,14 @@
 use Prim.Native.Nat.{ℕ, _+_}
 use mathlib.Core.Bool.{Bool, _&&_, cond}
 use lib.Dec.{ltb, eqb}
-use Rattle.moreau.specs.StateSpace.{Msg, COPY, DEC, INC-DEC, Bag, ∅, ⟅_⟆, Config}
+use Rattle.moreau.specs.StateSpace.{Msg, COPY, DEC, INC-DEC, BagOf, ∅, ⟅_⟆, Config}
 use Rattle.model.specs.declared.Posted.{Posted}
 use Rattle.model.specs.declared.Posted.the-variants.{Copy, Dec, IncDec, Nothing}
 use Rattle.model.specs.Questions.{total}
 use Rattle.model.specs.Layout.{Layout}
 
 -- the bag of one slot: its message, or nothing
-unfoldable pub meant : Posted → Bag
+unfoldable pub meant : Posted → BagOf Msg
 meant (Copy from to p) = ⟅ COPY from to p ⟆
 meant (Dec from to p) = ⟅ DEC from to p ⟆
 meant (IncDec from to third p) = ⟅ INC-DEC from to p third ⟆
