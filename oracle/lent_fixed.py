@@ -61,6 +61,15 @@ def openings():
     return calls + [("open", lent, ()) for lent in spoilt]
 
 
+def asks():
+    """3 before 13, and counters whose bytes are not both 0."""
+    counted = tables_of(2, [0, 1], {(0, 0): 256, (1, 1): 255, (1, 0): 0})
+    return [("ask", counted, names) for names in (
+        (0, 0), (1, 1), (1, 0), (2, 0), (0, 2), (2, 2), (255, 255))] + [
+            ("ask", tables_of(2, [0], {(0, 0): FULL}), (0, 0)), ("ask", tables_of(1, []), (0, 0)),
+            ("ask", tables_of(1, [0]), (0, 0))]
+
+
 def copies():
     """Each refusal of a make copy by itself and two at once, and the last counter below the top."""
     room = tables_of(3, [0], holders=[(1, 0)], slots=[NO_SLOT])
@@ -92,6 +101,8 @@ def arrivals():
         one(dec, counted, more=[(INC_DEC, 2, 0, 1, 0)]), one(dec, counted, more=[(INC_DEC, 2, 0, 0, 0)]),
         one(dec, counted, more=[(INC_DEC, 1, 2, 0, 0)]), one(dec, counted, more=[(INC_DEC, 1, 0, 0, 1)]),
         one(dec, counted, more=[(INC_DEC, 0, 1, 1, 0)]), one(dec, counted, more=[(DEC, 1, 0, 0, 0)]),
+        one(dec, counted, more=[(COPY, 1, 0, 0, 0)]), one(dec, counted, more=[(INC_DEC, 1, 0, 0, 0)]),
+        one(dec, counted, more=[(INC_DEC, 1, 0, 1, 0)]),
         one((INC_DEC, 1, 0, 3, 0)), one((INC_DEC, 1, 0, 3, 0), {(0, 0): FULL}),
         one((INC_DEC, 1, 0, 3, 0), {(0, 0): FULL - 1}), one((INC_DEC, 1, 3, 2, 0)),
         one((INC_DEC, 1, 1, 1, 0)), one((INC_DEC, 1, 3, 2, 0), {(0, 0): FULL}),
@@ -147,9 +158,12 @@ def damaged_tables():
              good._replace(pool=good.pool[:-1], receive=b"\1\0\0\2\0\0"),
              good._replace(send=good.send[:-1]), good._replace(receive=good.receive + b"\0")]
     lents += [good._replace(pool=good.pool[:5] + bytes(slot)) for slot in bad_slots]
-    return ([("copy", lent, (0, 1, 0)) for lent in lents] + [("copy", lent, (9, 9, 9)) for lent in lents[1:8]]
-            + [("ask", lent, (0, 0)) for lent in lents[1:8]]
-            + [("receive", lent, (0,)) for lent in lents[1:8]])
+    some = lents[1:8] + [good._replace(pool=good.pool[:5] + bytes(bad_slots[0]))]
+    calls = [("copy", (9, 9, 9)), ("receive", (0,)), ("receive", (9,)), ("delete", (1, 0)), ("delete", (9, 9)),
+             ("ask", (0, 0)), ("ask", (1, 0)), ("ask", (9, 9)), ("share", (0, 0)), ("share", (9, 9)),
+             ("sheet", (0, 192)), ("sheet", (9, 192))]
+    return ([("copy", lent, (0, 1, 0)) for lent in lents]
+            + [(name, lent, names) for name, names in calls for lent in some])
 
 
 def large_tables():
@@ -168,13 +182,15 @@ def books():
     twins = BookParts(2, b"\1\1", book_of([b"AB", b"AB"]))
     apart = BookParts(2, b"\1\0\1", book_of([b"AB", b"C", b"AB"]))
     empty = BookParts(1, b"", b"")
+    names = [b"%41", b"A", b"a", b"A\0", b"A\0B", b"AB", b"\xc3\xa9", b"\xe9"]
+    odd = BookParts(1, bytes(len(names)), book_of(names))
     most = BookParts(64, bytes(256), book_of([bytes([number]) * 255 for number in range(256)]))
     bad = [pair._replace(book=book) for book in (
         pair.book + b"\0", pair.book + b"A", pair.book[:-1], pair.book[:3], b"\0" + pair.book, b"",
-        b"\2AB\0", b"\0\2AB", b"\1A\0\1B")] + [empty._replace(book=b"\0"), empty._replace(book=b"\1A")]
+        b"\2AB\0", b"\0\2AB", b"\1A\0\1B", b"\xffAB")] + [twins._replace(book=twins.book + b"A"), empty._replace(book=b"\0"), empty._replace(book=b"\1A")]
     late = [pair._replace(sites=0), pair._replace(sites=65), pair._replace(owners=b"\0\2"),
             BookParts(1, bytes(257), book_of([b"A"] * 257)), pair._replace(owners=b"\0\2", book=b"")]
-    group = [pair, twins, apart, empty, most] + bad + late
+    group = [pair, twins, apart, odd, empty, most] + bad + late
     calls = [("check", parts, ()) for parts in group]
     calls += [("address", parts, (pointer,)) for parts in group for pointer in (0, 1)]
     calls += [("address", most, (255,)), ("address", bad[0], (2,)), ("address", pair, (2,))]
@@ -183,10 +199,10 @@ def books():
         (pair, (0, b"AB")), (pair, (1, b"A")), (pair, (1, b"")), (pair, (2, b"AB")), (pair, (2, b"Z")),
         (pair, (1, b"ABC")), (bad[0], (2, b"AB")), (most, (0, b"\xff" * 255)), (most, (0, b"\xff" * 256)),
         (apart, (1, b"AB")), (apart, (0, b"AB")), (pair, (255, b"AB")))]
-    return calls
+    return calls + [("search", odd, (0, name)) for name in names + [b"\0", b"%61", b"B", b"A\0BC"]]
 
 
 def fixed_calls():
-    groups = (document_examples, openings, copies, arrivals, deletes, shares_and_sheets,
+    groups = (document_examples, openings, asks, copies, arrivals, deletes, shares_and_sheets,
               damaged_tables, books, large_tables)
     return [LentCall(*call) for group in groups for call in group()]
