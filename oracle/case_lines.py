@@ -19,10 +19,12 @@ def malformed_lines():
                   "010001", "0100010000", "0100010001000100", "0" * 500),
         malformed("lower-case", "lower case is no digit", "0100010a", "010001b0", "01000c00", "0100d000",
                   "010e0000", "01f00000", "0a000000", "ff000000"),
-        malformed("space", "a space is no digit, at either end or within", " 1000100", "0100010 ", "0100 100",
+        malformed("space", "a space is no digit, at either end or within", " 1000100", "0100010 ",
+                  "0100 100",
                   " 01000100", "01000100 "),
         malformed("tab", "a tab is no digit", "0100010\t", "01000100\t"),
-        malformed("crlf", "CR LF: the carriage return is a ninth character", "01000100\r", "04000000\r", "\r"),
+        malformed("crlf", "CR LF: the carriage return is a ninth character", "01000100\r", "04000000\r",
+                  "\r"),
         malformed("cr-within", "a carriage return among eight characters is no digit", "0100010\r",
                   "010\r0100"),
         malformed("nul", "a NUL byte is no digit and ends nothing", "0100010\x00", "\x0001000100",
@@ -31,10 +33,12 @@ def malformed_lines():
                   "\xc3\x80000000"),
         malformed("neighbours", "the characters beside 0, 9, A and F are no digits", "/1000100", ":1000100",
                   "@1000100", "G1000100", "0100010/", "0100010:", "0100010@", "0100010G", "0100010`"),
-        malformed("other-line-ends", "only newline ends a line: not VT, FF, NEL or CR", "01000100\x0b01000100",
+        malformed("other-line-ends", "only newline ends a line: not VT, FF, NEL or CR",
+                  "01000100\x0b01000100",
                   "01000100\x0c01000100", "01000100\x8501000100", "01000100\r01000100"),
         malformed("empty", "an empty line gives 14", "", "", ""),
-        malformed("signs", "signs, prefixes and separators are no digits", "+1000100", "-1000100", "0x000100",
+        malformed("signs", "signs, prefixes and separators are no digits", "+1000100", "-1000100",
+                  "0x000100",
                   "01_00_10", "1,0,1,00"),
         malformed("last-byte", "codes 02 to 04 end in 00", "02000001", "02000010", "020000FF", "03010001",
                   "030100FF", "04000001", "040000F0")]
@@ -86,8 +90,8 @@ def every_byte():
              [OPENED, refusal(5), refusal(5)] + [refusal(3)] * 254)]
 
 
-def refusals():
-    """One case for each refusal that `desk` can give, named by its number."""
+def refusals_of_tables():
+    """One case for each refusal that `desk` can give, named by its number: 1 to 9."""
     return [
         case("refusal-01-bad-shape", "S above 64", lines("41000400"), [refusal(1)]),
         case("refusal-02-bad-table", "an owner not below S", lines("03000403"), [refusal(2)]),
@@ -95,7 +99,8 @@ def refusals():
              lines(THREE_SITES, "01030100", "01000300", "01000101", "01FF0100", "0100FF00", "010001FF",
                    "02000400", "02FFFF00", "03030000", "03010100", "04030000", "04000100", "04FFFF00"),
              [OPENED] + [refusal(3)] * 13),
-        case("refusal-04-same-site", "make copy from a site to itself", lines(THREE_SITES, "01000000", "01020200"),
+        case("refusal-04-same-site", "make copy from a site to itself",
+             lines(THREE_SITES, "01000000", "01020200"),
              [OPENED, refusal(4), refusal(4)]),
         case("refusal-05-not-held", "make copy and delete where the cell is 0",
              lines(THREE_SITES, "01010000", "01020100", "03010000"), [OPENED] + [refusal(5)] * 3),
@@ -111,7 +116,12 @@ def refusals():
              lines(THREE_SITES, "01000100", "02000000", "01010200", "02000000", "03020000", "02000100",
                    "02000000", "02000100"),
              [OPENED, FIRST_COPY, accepted(0), accepted(0, "0101020000"), accepted(0, "0302000100"),
-              accepted(1, "0202000000"), refusal(9), accepted(0, "0200010000"), accepted(1)]),
+              accepted(1, "0202000000"), refusal(9), accepted(0, "0200010000"), accepted(1)])]
+
+
+def refusals_of_sites_and_lines():
+    """The same for 11 to 17."""
+    return [
         case("refusal-11-is-owner", "delete at the owner", lines(THREE_SITES, "03000000"),
              [OPENED, refusal(11)]),
         case("refusal-12-still-counted", "delete while the site's counter is not 0, and again when it is",
@@ -151,5 +161,6 @@ def call_orders():
 
 
 def all_cases():
-    groups = (malformed_lines, line_order, every_byte, refusals, call_orders)
+    groups = (malformed_lines, line_order, every_byte, refusals_of_tables, refusals_of_sites_and_lines,
+              call_orders)
     return [found for group in groups for found in group()]

@@ -93,11 +93,14 @@ def accepted_edges():
 def refused_openings():
     good = lines(THREE_SITES, *AFTER)
     return [
-        case("stop-after-14", "after an opening refused with 14 nothing is answered, not even a good opening",
+        case("stop-after-14",
+             "after an opening refused with 14 nothing is answered, not even a good opening",
              lines("0300040") + good, [refusal(14)]),
-        case("stop-after-1", "after an opening refused with 1 nothing is answered", lines("00000400") + good,
+        case("stop-after-1", "after an opening refused with 1 nothing is answered",
+             lines("00000400") + good,
              [refusal(1)]),
-        case("stop-after-2", "after an opening refused with 2 nothing is answered", lines("03000409") + good,
+        case("stop-after-2", "after an opening refused with 2 nothing is answered",
+             lines("03000409") + good,
              [refusal(2)]),
         case("stop-after-empty-opening", "an empty first line is an opening of 0 digits: 14, and stop",
              b"\n" + good, [refusal(14)])]
@@ -106,7 +109,8 @@ def refused_openings():
 def exact_input(size, last_newline):
     """Good lines of exactly that many bytes: 3 sites, 1,024 slots, copies and receives in turn."""
     room = size + (not last_newline)
-    calls = next(count for count in range(room // 9, 0, -1) if (room - 9 * count) % 2 and room - 9 * count > 8)
+    calls = next(count for count in range(room // 9, 0,
+                                          -1) if (room - 9 * count) % 2 and room - 9 * count > 8)
     digits = room - 9 * calls - 1
     owners = ("000102" * 20)[:digits - 6]
     turns = ("01000100", "02000000", "01010200", "02000000", "01010200", "02000100", "03020000")

@@ -111,7 +111,8 @@ def pointers():
               accepted(0), accepted(0, "0201000000"), accepted(1, "0200010001"), refusal(11),
               accepted(0), accepted(1), accepted(0), accepted(1), accepted(1)]),
         case("ask-changes-nothing", "ask between all other calls leaves them as they were",
-             lines(THREE_SITES, *(text for line in FOURTEEN_IN.split()[1:] for text in ("04000000", line))))]
+             lines(THREE_SITES,
+                   *(text for line in FOURTEEN_IN.split()[1:] for text in ("04000000", line))))]
 
 
 def random_cases():
@@ -134,7 +135,8 @@ def walk_on_largest():
 
 
 def largest():
-    return [case("input-largest-desk", "8,192 bytes over S = 64, G = 255 and 1,024 slots", walk_on_largest())]
+    return [case("input-largest-desk", "8,192 bytes over S = 64, G = 255 and 1,024 slots",
+                 walk_on_largest())]
 
 
 def all_cases():

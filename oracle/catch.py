@@ -59,9 +59,9 @@ def tries_for(mutant, evidence):
     modules = load(mutant.patches)
     touched = {patch.module for patch in mutant.patches}
     tries = []
-    if not touched <= {"lines", "program"}:
+    if not touched or not touched <= {"lines", "program"}:
         tries.append(("lent tables", lambda: first_lent(modules, evidence.lent_lines)))
-    if not touched <= {"book"}:
+    if touched != {"book"}:
         tries.append(("cases", lambda: first_case(modules, evidence.cases)))
         tries.append(("random inputs", lambda: first_case(modules, evidence.inputs)))
     return tries

@@ -135,12 +135,13 @@ def shares_and_sheets():
         (COPY, 0, 1, 0, 0), (COPY, 2, 1, 0, 0), (COPY, 1, 0, 0, 0), (COPY, 0, 1, 0, 1),
         (INC_DEC, 1, 0, 2, 0), (INC_DEC, 1, 2, 0, 0), (INC_DEC, 2, 0, 1, 0), (INC_DEC, 1, 0, 2, 1)])
     bad = mixed._replace(receive=b"\2" + mixed.receive[1:])
+    last_site = tables_of(64, [63], slots=[(DEC, 63, 63, 0, 0)])
     shares = [(low, (1, 0)), (high, (1, 0)), (high, (0, 0)), (mixed, (1, 0)), (mixed, (2, 0)),
               (mixed, (3, 0)), (mixed, (0, 0)), (mixed, (1, 1)), (mixed, (4, 0)), (mixed, (1, 2)),
               (bad, (0, 0)), (bad, (9, 9))]
     sheets = [(low, (0, 192)), (high, (0, 192)), (mixed, (0, 192)), (mixed, (1, 192)),
               (mixed, (2, 192)), (bad, (0, 192)), (bad, (9, 192)), (mixed, (0, 191)),
-              (mixed, (0, 193)), (bad, (0, 0)), (tables_of(64, [63], slots=[(DEC, 63, 63, 0, 0)]), (0, 192))]
+              (mixed, (0, 193)), (bad, (0, 0)), (last_site, (0, 192))]
     return ([("share", lent, names) for lent, names in shares]
             + [("sheet", lent, names) for lent, names in sheets])
 
@@ -159,7 +160,8 @@ def damaged_tables():
              good._replace(send=good.send[:-1]), good._replace(receive=good.receive + b"\0")]
     lents += [good._replace(pool=good.pool[:5] + bytes(slot)) for slot in bad_slots]
     some = lents[1:8] + [good._replace(pool=good.pool[:5] + bytes(bad_slots[0]))]
-    calls = [("copy", (9, 9, 9)), ("receive", (0,)), ("receive", (9,)), ("delete", (1, 0)), ("delete", (9, 9)),
+    calls = [("copy", (9, 9, 9)), ("receive", (0,)), ("receive", (9,)), ("delete", (1, 0)),
+             ("delete", (9, 9)),
              ("ask", (0, 0)), ("ask", (1, 0)), ("ask", (9, 9)), ("share", (0, 0)), ("share", (9, 9)),
              ("sheet", (0, 192)), ("sheet", (9, 192))]
     return ([("copy", lent, (0, 1, 0)) for lent in lents]
@@ -187,7 +189,8 @@ def books():
     most = BookParts(64, bytes(256), book_of([bytes([number]) * 255 for number in range(256)]))
     bad = [pair._replace(book=book) for book in (
         pair.book + b"\0", pair.book + b"A", pair.book[:-1], pair.book[:3], b"\0" + pair.book, b"",
-        b"\2AB\0", b"\0\2AB", b"\1A\0\1B", b"\xffAB")] + [twins._replace(book=twins.book + b"A"), empty._replace(book=b"\0"), empty._replace(book=b"\1A")]
+        b"\2AB\0", b"\0\2AB", b"\1A\0\1B", b"\xffAB")]
+    bad += [twins._replace(book=twins.book + b"A"), empty._replace(book=b"\0"), empty._replace(book=b"\1A")]
     late = [pair._replace(sites=0), pair._replace(sites=65), pair._replace(owners=b"\0\2"),
             BookParts(1, bytes(257), book_of([b"A"] * 257)), pair._replace(owners=b"\0\2", book=b"")]
     group = [pair, twins, apart, odd, empty, most] + bad + late

@@ -15,7 +15,8 @@ ANSWERED = "        output.append(answer_line(answer_to(desk, call)))\n"
 
 def characters():
     return [
-        mutant("lower case is accepted", "lines", "    return all(character in DIGITS for character in text)",
+        mutant("lower case is accepted", "lines",
+               "    return all(character in DIGITS for character in text)",
                "    return all(character in DIGITS + b'abcdef' for character in text)",
                "lines", "    return max(DIGITS.find(character), 0)",
                "    return max(DIGITS.find(bytes([character]).upper()), 0)"),
@@ -31,7 +32,8 @@ def characters():
                LENGTH.replace("!=", "<"), "lines", "digits_to_bytes(line)\n    if code",
                "digits_to_bytes(line[:8])\n    if code"),
         mutant("a line may be shorter than eight", "lines", LENGTH, LENGTH.replace("!=", ">"),
-               "lines", "= digits_to_bytes(line)\n    if code", "= digits_to_bytes(line.ljust(8, b'0'))\n    if code")]
+               "lines", "= digits_to_bytes(line)\n    if code",
+               "= digits_to_bytes(line.ljust(8, b'0'))\n    if code")]
 
 
 def codes():
@@ -44,16 +46,19 @@ def codes():
         mutant("code 00 is a malformed line", "lines", "    return code == 0x00 or 0x05 <= code <= 0x7F",
                "    return 0x05 <= code <= 0x7F", "lines", LENGTH, LENGTH
                + "        (BAD_LINE, lambda: parts[0] == 0),\n"),
-        mutant("private codes are unknown ones", "lines", PRIVATE, PRIVATE.replace("PRIVATE_CODE", "UNKNOWN_CODE")),
+        mutant("private codes are unknown ones", "lines", PRIVATE,
+               PRIVATE.replace("PRIVATE_CODE", "UNKNOWN_CODE")),
         mutant("the last byte is not tested", "lines", LAST, ""),
         mutant("the last byte is not tested for code 04", "lines", LAST,
                LAST.replace("parts[0] != 0x01", "parts[0] in (0x02, 0x03)")),
         mutant("the last byte of a make copy is tested too", "lines", LAST,
                "        (BAD_LINE, lambda: parts[3] != 0x00),\n"),
-        mutant("codes 03 and 04 are exchanged", "lines", "if code == 0x03 else Ask", "if code == 0x04 else Ask"),
+        mutant("codes 03 and 04 are exchanged", "lines", "if code == 0x03 else Ask",
+               "if code == 0x04 else Ask"),
         mutant("a slot's low byte comes first", "lines", "return Receive(256 * first + second)",
                "return Receive(256 * second + first)"),
-        mutant("a slot has one byte", "lines", "return Receive(256 * first + second)", "return Receive(second)")]
+        mutant("a slot has one byte", "lines", "return Receive(256 * first + second)",
+               "return Receive(second)")]
 
 
 def line_orders():
@@ -95,11 +100,13 @@ def openings():
                "        return b\"\".join(output) + run(text[reader.position:])\n"),
         mutant("any refusal stops the program", "program", ANSWERED, ANSWERED
                + "        if output[-1][:2] != b'00':\n            break\n"),
-        mutant("an opening of 4 digits is taken", "program", "FEWEST_OPENING_DIGITS, MOST_OPENING_DIGITS = 6,",
+        mutant("an opening of 4 digits is taken", "program",
+               "FEWEST_OPENING_DIGITS, MOST_OPENING_DIGITS = 6,",
                "FEWEST_OPENING_DIGITS, MOST_OPENING_DIGITS = 4,", "program",
                "sites, high, low, *owners = digits_to_bytes(line)",
                "sites, high, low, *owners = digits_to_bytes(line.ljust(6, b'0'))"),
-        mutant("an opening of 6 digits is refused", "program", "FEWEST_OPENING_DIGITS, MOST_OPENING_DIGITS = 6,",
+        mutant("an opening of 6 digits is refused", "program",
+               "FEWEST_OPENING_DIGITS, MOST_OPENING_DIGITS = 6,",
                "FEWEST_OPENING_DIGITS, MOST_OPENING_DIGITS = 8,"),
         mutant("an opening of 518 digits is refused", "program", "MOST_OPENING_DIGITS = 6, 518",
                "MOST_OPENING_DIGITS = 6, 516"),
@@ -124,7 +131,8 @@ def programs():
         mutant("an answer line without its message", "program", "+ slot_bytes(answer.message)) + b\"\\n\"",
                ") + b\"\\n\""),
         mutant("an answer's value with its low byte first", "program",
-               "bytes((answer.value >> 8, answer.value & 255))", "bytes((answer.value & 255, answer.value >> 8))"),
+               "bytes((answer.value >> 8, answer.value & 255))",
+               "bytes((answer.value & 255, answer.value >> 8))"),
         mutant("an answer's value in one byte", "program", "bytes((answer.value >> 8, answer.value & 255))",
                "bytes((0, answer.value & 255))"),
         mutant("answers in lower case", "program", "slot_bytes(answer.message)) + b\"\\n\"",
@@ -132,7 +140,8 @@ def programs():
         mutant("the last answer lacks its newline", "program",
                "        call = reader.next_call()\n    return b\"\".join(output)\n",
                "        call = reader.next_call()\n    return b\"\".join(output)[:-1]\n"),
-        mutant("8,192 bytes are too long", "program", "len(text) > LONGEST_INPUT", "len(text) >= LONGEST_INPUT"),
+        mutant("8,192 bytes are too long", "program", "len(text) > LONGEST_INPUT",
+               "len(text) >= LONGEST_INPUT"),
         mutant("8,193 bytes are not too long", "program", "len(text) > LONGEST_INPUT",
                "len(text) > LONGEST_INPUT + 1"),
         mutant("too long an input is cut and run", "program", "    if len(text) > LONGEST_INPUT:\n",

@@ -33,7 +33,8 @@ WRAPPED_COUNT = "self.counts[site, pointer] = (self.count(site, pointer) + step)
 def imposters():
     """Document 01, 'How much each promise must say'."""
     return [
-        mutant("imposter: refuses all calls", "desk", "", ALL_CALLS + "lambda desk, *names: refused(POOL_FULL)\n"),
+        mutant("imposter: refuses all calls", "desk", "",
+               ALL_CALLS + "lambda desk, *names: refused(POOL_FULL)\n"),
         mutant("imposter: answers 0 to all", "desk", "", ALL_CALLS + "lambda desk, *names: refused(0)\n"),
         mutant("imposter: stores nothing", "desk", "", """import copy
 def wrapped(call):
@@ -51,7 +52,8 @@ def wrapped(call):
 """ + WRAP_ALL),
         mutant("imposter: makes up the counter", "desk", STORE_COUNT,
                "self.counts[site, pointer] = 1 if step > 0 else 0"),
-        mutant("imposter: makes up the value of a post", "desk", "        return slot\n", "        return 0\n"),
+        mutant("imposter: makes up the value of a post", "desk", "        return slot\n",
+               "        return 0\n"),
         mutant("imposter: makes up the value of a receive", "desk",
                "return Answer(ACCEPTED, slot, posted)", "return Answer(ACCEPTED, 0, posted)")]
 
@@ -65,7 +67,8 @@ def short_cuts():
         mutant("a first COPY from another site is sent back as a DEC", "desk", INC_DEC_POSTED,
                "    return Message(DEC, receiver, sender, 0, pointer)\n"),
         mutant("Held by pointer alone", "desk", HELD_SENDER + HELD_RECEIVER, ""),
-        mutant("Held by the third site as sender", "desk", HELD_SENDER, "        and other.third == dec.sender\n"),
+        mutant("Held by the third site as sender", "desk", HELD_SENDER,
+               "        and other.third == dec.sender\n"),
         mutant("Held by the third site as receiver", "desk", HELD_RECEIVER,
                "        and other.third == dec.receiver\n"),
         mutant("Held by the third site alone", "desk", HELD_SENDER + HELD_RECEIVER,
@@ -109,7 +112,8 @@ def arrivals():
         mutant("a COPY to a holder sends its DEC to the owner", "desk", SENT_BACK,
                "        return Message(DEC, receiver, owner, 0, pointer)\n"),
         mutant("a COPY to a holder posts nothing", "desk", SENT_BACK, "        return None\n"),
-        mutant("a first COPY does not set the cell", "desk", "    desk.holders.add((receiver, pointer))\n", ""),
+        mutant("a first COPY does not set the cell", "desk", "    desk.holders.add((receiver, pointer))\n",
+               ""),
         mutant("a first COPY from the owner posts an INC_DEC too", "desk", FROM_OWNER, ""),
         mutant("a first COPY to an owner whose cell is 0 posts nothing", "desk", FROM_OWNER,
                "    if owner in (sender, receiver):\n        return None\n"),
@@ -138,7 +142,8 @@ def arrivals():
 
 def limits():
     return [
-        mutant("make copy wraps a counter at 65,535", "desk", COPY_FULL, "", "desk", STORE_COUNT, WRAPPED_COUNT),
+        mutant("make copy wraps a counter at 65,535", "desk", COPY_FULL, "", "desk", STORE_COUNT,
+               WRAPPED_COUNT),
         mutant("an INC_DEC wraps a counter at 65,535", "desk",
                "        (COUNTER_FULL, lambda: count == GREATEST_COUNT),\n", "",
                "desk", STORE_COUNT, WRAPPED_COUNT),
@@ -204,9 +209,11 @@ def shares():
                "message.kind, message.third if message.kind == INC_DEC else message.sender, message.receiver"),
         mutant("share never below 0", "desk", "return ShareAnswer(ACCEPTED, share_of(desk, site, pointer))",
                "return ShareAnswer(ACCEPTED, max(share_of(desk, site, pointer), 0))"),
-        mutant("share in eleven bits", "desk", "return ShareAnswer(ACCEPTED, share_of(desk, site, pointer))",
+        mutant("share in eleven bits", "desk",
+               "return ShareAnswer(ACCEPTED, share_of(desk, site, pointer))",
                "return ShareAnswer(ACCEPTED, (share_of(desk, site, pointer) + 1024) % 2048 - 1024)"),
-        mutant("share over all pointers", "desk", "        for message in desk.in_flight() if message.pointer == pointer)",
+        mutant("share over all pointers", "desk",
+               "        for message in desk.in_flight() if message.pointer == pointer)",
                "        for message in desk.in_flight())"),
         mutant("share at the owner too", "desk", SITE_NAMES + IS_OWNER + "    )\n\n\ndef share_of",
                SITE_NAMES + "    )\n\n\ndef share_of")]
@@ -222,8 +229,10 @@ def sheets():
         mutant("sheet with the rows of COPY and DEC exchanged", "desk",
                "for kind in (COPY, DEC, INC_DEC) for site", "for kind in (DEC, COPY, INC_DEC) for site"),
         mutant("sheet over all pointers", "desk",
-               "        if message.pointer == pointer:\n            row", "        if True:\n            row"),
-        mutant("sheet by columns", "desk", "for kind in (COPY, DEC, INC_DEC) for site in range(SHEET_COLUMNS)]",
+               "        if message.pointer == pointer:\n            row",
+               "        if True:\n            row"),
+        mutant("sheet by columns", "desk",
+               "for kind in (COPY, DEC, INC_DEC) for site in range(SHEET_COLUMNS)]",
                "for site in range(SHEET_COLUMNS) for kind in (COPY, DEC, INC_DEC)]"),
         mutant("sheet says only whether there is one", "desk", "row[column] = row.get(column, 0) + 1",
                "row[column] = 1")]

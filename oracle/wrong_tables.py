@@ -16,7 +16,8 @@ def early(call, names, number, condition):
     answer = {"share": "ShareAnswer(%d, 0)", "sheet": "SheetAnswer(%d, machine.no_rows())"}.get(
         call, "refused(%d)") % number
     return mutant("%s: %d before 2" % (call.replace("_", " "), number), "tables", head,
-                  head + "    if not breaks_shape(lent) and %s:\n        return %s, lent\n" % (condition, answer))
+                  head + "    if not breaks_shape(lent) and %s:\n        return %s, lent\n" % (condition,
+                                                                                               answer))
 
 
 def orders():
@@ -40,14 +41,16 @@ def shapes():
         mutant("S = 64 is not taken", "desk", "MOST_SITES, MOST_POINTERS, MOST_SLOTS = 64,",
                "MOST_SITES, MOST_POINTERS, MOST_SLOTS = 63,"),
         mutant("S = 0 is taken", "tables", "not 1 <= sites <= MOST_SITES", "not 0 <= sites <= MOST_SITES"),
-        mutant("S = 1 is not taken", "tables", "not 1 <= sites <= MOST_SITES", "not 2 <= sites <= MOST_SITES"),
+        mutant("S = 1 is not taken", "tables", "not 1 <= sites <= MOST_SITES",
+               "not 2 <= sites <= MOST_SITES"),
         mutant("G = 0 is not taken", "tables", "or len(owners) > MOST_POINTERS",
                "or not 1 <= len(owners) <= MOST_POINTERS"),
         mutant("G = 256 is not taken", "tables", "or len(owners) > MOST_POINTERS",
                "or len(owners) >= MOST_POINTERS"),
         mutant("G = 257 is taken", "tables", "or len(owners) > MOST_POINTERS",
                "or len(owners) > MOST_POINTERS + 1"),
-        mutant("1,025 slots are taken", "tables", "// SLOT_BYTES > MOST_SLOTS", "// SLOT_BYTES > MOST_SLOTS + 1"),
+        mutant("1,025 slots are taken", "tables", "// SLOT_BYTES > MOST_SLOTS",
+               "// SLOT_BYTES > MOST_SLOTS + 1"),
         mutant("1,024 slots are not taken", "tables", "// SLOT_BYTES > MOST_SLOTS",
                "// SLOT_BYTES >= MOST_SLOTS"),
         mutant("a pool with a broken slot at its end is taken", "tables",
@@ -62,7 +65,8 @@ def contents():
     misnamed = "misnamed = sender >= sites or receiver >= sites or pointer >= pointers"
     return [
         mutant("owners are not tested in lent tables", "tables",
-               "    return (breaks_owners(lent.sites, lent.owners)\n            or any(cell", "    return (any(cell"),
+               "    return (breaks_owners(lent.sites, lent.owners)\n            or any(cell",
+               "    return (any(cell"),
         mutant("an owner equal to S is taken", "tables", "any(owner >= sites for", "any(owner > sites for"),
         mutant("a receive byte above 1 is taken", "tables",
                "            or any(cell > 1 for cell in lent.receive)\n", ""),
@@ -71,16 +75,21 @@ def contents():
         mutant("a kind above 3 is an empty slot", "tables", "    return True\n", "    return False\n",
                "tables", "Message(*slot) if slot[0] != EMPTY else None",
                "Message(*slot) if slot[0] in (1, 2, 3) else None"),
-        mutant("the sender of a slot is not tested", "tables", misnamed, "misnamed = receiver >= sites or pointer >= pointers"),
-        mutant("the receiver of a slot is not tested", "tables", misnamed, "misnamed = sender >= sites or pointer >= pointers"),
-        mutant("the pointer of a slot is not tested", "tables", misnamed, "misnamed = sender >= sites or receiver >= sites"),
+        mutant("the sender of a slot is not tested", "tables", misnamed,
+               "misnamed = receiver >= sites or pointer >= pointers"),
+        mutant("the receiver of a slot is not tested", "tables", misnamed,
+               "misnamed = sender >= sites or pointer >= pointers"),
+        mutant("the pointer of a slot is not tested", "tables", misnamed,
+               "misnamed = sender >= sites or receiver >= sites"),
         mutant("a third site in a COPY or DEC is taken", "tables", "misnamed or third != 0", "misnamed"),
-        mutant("a third site too large in an INC_DEC is taken", "tables", "misnamed or third >= sites", "misnamed"),
+        mutant("a third site too large in an INC_DEC is taken", "tables", "misnamed or third >= sites",
+               "misnamed"),
         mutant("third 0 is refused in an INC_DEC", "tables", "misnamed or third >= sites",
                "misnamed or not 0 < third < sites"),
         mutant("a COPY to its own sender is BadTable", "tables", "misnamed or third != 0",
                "misnamed or third != 0 or (kind == COPY and sender == receiver)"),
-        mutant("an owner's cell at 0 is BadTable", "tables", "            or any(cell > 1 for cell in lent.receive)\n",
+        mutant("an owner's cell at 0 is BadTable", "tables",
+               "            or any(cell > 1 for cell in lent.receive)\n",
                "            or any(cell > 1 for cell in lent.receive)\n            or any(lent.receive[o * len("
                "lent.owners) + p] == 0 for p, o in enumerate(lent.owners))\n"),
         mutant("cells by pointer first", "tables", "divmod(place, pointers): count",
@@ -94,9 +103,11 @@ def openings():
     return [
         mutant("opening tests what the other parts held", "tables", LENT_OWNERS_TEST,
                TABLE_TEST.replace("(BAD", " (BAD")[1:]),
-        mutant("opening leaves the counters", "tables", "    return Answer(ACCEPTED, 0, None), encode(opened)\n",
+        mutant("opening leaves the counters", "tables",
+               "    return Answer(ACCEPTED, 0, None), encode(opened)\n",
                "    return Answer(ACCEPTED, 0, None), encode(opened)._replace(send=lent.send)\n"),
-        mutant("opening leaves the pool", "tables", "    return Answer(ACCEPTED, 0, None), encode(opened)\n",
+        mutant("opening leaves the pool", "tables",
+               "    return Answer(ACCEPTED, 0, None), encode(opened)\n",
                "    return Answer(ACCEPTED, 0, None), encode(opened)._replace(pool=lent.pool)\n"),
         mutant("opening sets no cell", "desk",
                "    desk.holders = {(site, pointer) for pointer, site in desk.owner_of.items()}\n", ""),
@@ -117,17 +128,26 @@ def openings():
 
 def books():
     end = "    return parts if at == len(book) else None\n"
-    equal = "owners[pointer] == owner and name == wanted]"
-    search_tests = ("        (BAD_NAME, lambda: owner >= sites),\n", "        (NOT_LISTED, lambda: not found),\n")
     return [
-        mutant("book: a trailing byte is taken", "book", end, "    return parts if at <= len(book) else None\n"),
-        mutant("book: a cut last address is taken", "book", end, "    return parts if at >= len(book) else None\n"),
-        mutant("book: a length of 0 is taken", "book", "if at >= len(book) or book[at] == 0:", "if at >= len(book):"),
+        mutant("book: a trailing byte is taken", "book", end,
+               "    return parts if at <= len(book) else None\n"),
+        mutant("book: a cut last address is taken", "book", end,
+               "    return parts if at >= len(book) else None\n"),
+        mutant("book: a length of 0 is taken", "book", "if at >= len(book) or book[at] == 0:",
+               "if at >= len(book):"),
         mutant("book: an address stands at its length byte", "book", "parts[pointer] = (at + 1, book[at])",
                "parts[pointer] = (at, book[at])"),
-        mutant("book: a part after a refusal is the whole book", "book", "        return Part(number, 0, 0)\n",
+        mutant("book: a part after a refusal is the whole book", "book",
+               "        return Part(number, 0, 0)\n",
                "        return Part(number, 0, len(book))\n"),
-        mutant("book: search by prefix", "book", equal, "owners[pointer] == owner and name.startswith(wanted)]"),
+    ]
+
+
+def searches():
+    equal = "owners[pointer] == owner and name == wanted]"
+    return [
+        mutant("book: search by prefix", "book", equal,
+               "owners[pointer] == owner and name.startswith(wanted)]"),
         mutant("book: search by a prefix of what is wanted", "book", equal,
                "owners[pointer] == owner and wanted.startswith(name)]"),
         mutant("book: search by address alone", "book", equal, "name == wanted]"),
@@ -137,7 +157,13 @@ def books():
                "owners[pointer] == owner and name.replace(b'%41', b'A') == wanted.replace(b'%41', b'A')]"),
         mutant("book: search ends an address at a NUL byte", "book", equal,
                "owners[pointer] == owner and name.split(b'\\0')[0] == wanted.split(b'\\0')[0]]"),
-        mutant("book: search gives the highest pointer", "book", "min(found)", "max(found)"),
+        mutant("book: search gives the highest pointer", "book", "min(found)", "max(found)")]
+
+
+def book_orders():
+    search_tests = ("        (BAD_NAME, lambda: owner >= sites),\n",
+                    "        (NOT_LISTED, lambda: not found),\n")
+    return [
         mutant("book: search also checks for twins", "book", search_tests[0], search_tests[0]
                + "        (TWINS, lambda: has_twins(owners, addresses_of(book, len(owners)))),\n"),
         mutant("book: twins without owners", "book", "{(owners[pointer], name) for", "{name for"),
@@ -158,12 +184,13 @@ def books():
                "    addresses = addresses_of(book, len(owners))\n    number = number or",
                "    addresses = addresses_of(book, len(owners))\n    twin = len(set(owners)) < len(owners)\n"
                "    number = TWINS if number == BAD_BOOK and twin else number\n    number = number or"),
-        mutant("book: 18 before 1 and 2", "book", "    return why_no_opening(sites, owners) or first_refusal(\n"
+        mutant("book: 18 before 1 and 2", "book",
+               "    return why_no_opening(sites, owners) or first_refusal(\n"
                "        (BAD_BOOK, lambda: parts_of(book, len(owners)) is None),\n    )",
                "    return first_refusal(\n        (BAD_BOOK, lambda: parts_of(book, len(owners)) is None),\n"
                "    ) or why_no_opening(sites, owners)")]
 
 
 def all_mutants():
-    groups = (orders, shapes, contents, openings, books)
+    groups = (orders, shapes, contents, openings, books, searches, book_orders)
     return [found for group in groups for found in group()]
