@@ -4,3 +4,4 @@ pub mod KindLaws
 pub mod BitLaws
 pub mod FieldLaws
 pub mod WordLaws
+pub mod DeskLaws
