@@ -19,4 +19,5 @@ pub mod Converse
 pub mod Demand2
 pub mod Demand3
 pub mod Fourteen
+pub mod Edges
 pub mod FlatLaws

@@ -1,0 +1,35 @@
+// The numbers 1 and 2 of what is lent (Document 01, Why a call is turned down).
+use crate::bytes::all_below;
+use crate::shape::shape_good;
+use crate::shape::sizes_good;
+use crate::word::all_slots_good;
+ghost use mathlib.Core.Path.{_≡_};
+ghost use Rattle.model.specs.Tables.{lent, ownersRefusal};
+ghost use Rattle.model.specs.Calls.{lentRefusal};
+ghost use Rattle.model.specs.Flat.{flat};
+
+// 1, 2 of all that is lent: the tests that begin every call.
+pub fn lent_refusal(s: u8, owners: &[u8], send: &[u16], receive: &[u8], pool: &[u8]) -> u8
+    ensures { λ r. ⌜ r ≡ lentRefusal flat (lent s (now (owners .entry)) (now (send .entry)) (now (receive .entry)) (now (pool .entry))) ⌝ }
+{
+    if !shape_good(s, owners.len(), send.len(), receive.len(), pool.len()) {
+        return 1;
+    }
+    if all_below(owners, s) & all_below(receive, 2) & all_slots_good(s, owners.len(), pool) {
+        return 0;
+    }
+    2
+}
+
+// 1, 2 of S and the owners alone, as the book takes them.
+pub fn owners_refusal(s: u8, owners: &[u8]) -> u8
+    ensures { λ r. ⌜ r ≡ ownersRefusal s (now (owners .entry)) ⌝ }
+{
+    if !sizes_good(s, owners.len()) {
+        return 1;
+    }
+    if all_below(owners, s) {
+        return 0;
+    }
+    2
+}
