@@ -17,6 +17,8 @@ pub mod ReceiveTransition
 pub mod HeldLaws
 pub mod Converse
 pub mod Demand2
+pub mod QuietLaws
+pub mod ReachedLaws
 pub mod Demand3
 pub mod Fourteen
 pub mod Edges
