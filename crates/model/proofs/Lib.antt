@@ -20,6 +20,9 @@ pub mod Demand2
 pub mod QuietLaws
 pub mod ReachedLaws
 pub mod Demand3
+pub mod ShareLaws
+pub mod Shares
+pub mod Lemma4
 pub mod Fourteen
 pub mod Edges
 pub mod FlatLaws

@@ -2,7 +2,7 @@
 use Prim.Native.Nat.{ℕ, _≤_, _<_}
 use mathlib.Core.Path.{_≡_}
 use mathlib.Core.Logic.{_≢_, _⊎_}
-use mathlib.Core.Bool.{Bool, true, false}
+use mathlib.Core.Bool.{Bool, true, false, _&&_}
 use mathlib.Core.List.{List, [], _∷_}
 use lib.Dec.{eqb}
 use Rattle.moreau.specs.StateSpace.{Msg, DEC, ⟅_⟆, _∈_}
@@ -12,7 +12,7 @@ use Rattle.model.specs.declared.Posted.{Posted}
 use Rattle.model.specs.declared.Posted.the-variants.{Copy, Dec, IncDec, Nothing}
 use Rattle.model.specs.declared.Call.{Call}
 use Rattle.model.specs.declared.Call.the-variants.{MakeCopy, Receive, Delete, Ask}
-use Rattle.model.specs.Refusals.{BadShape, BadTable, BadName, SameSite, NotHeld, CounterFull, PoolFull, EmptySlot, Held, CounterZero, IsOwner, StillCounted, NotOwner}
+use Rattle.model.specs.Refusals.{BadShape, BadTable, BadName, SameSite, NotHeld, CounterFull, PoolFull, EmptySlot, Held, CounterZero, IsOwner, StillCounted, NotOwner, _when_}
 use Rattle.model.specs.Layout.{Layout}
 use Rattle.model.specs.Calls.{openRefusal, openDesk, step}
 use Rattle.model.specs.Meaning.{meant, meaning}
@@ -49,6 +49,13 @@ names p (Copy from to q) = eqb q p
 names p (Dec from to q) = eqb q p
 names p (IncDec from to third q) = eqb q p
 names p Nothing = false
+
+-- 1 where a message of p acts on the counter of s: the sender of a COPY, the receiver of a DEC, the third site of an INC_DEC (source document 001, Definition 3)
+abbrev pub controls : ℕ → ℕ → Posted → ℕ
+controls s p (Copy from to q) = 1 when (eqb from s && eqb q p)
+controls s p (Dec from to q) = 1 when (eqb to s && eqb q p)
+controls s p (IncDec from to third q) = 1 when (eqb third s && eqb q p)
+controls s p Nothing = 0
 
 module _ {D : Type 0} (L : Layout D) where
   open Layout L using (sites, pointers, owner, counter, cell, slots, empty, message, shaped, owned, sound)
