@@ -12,7 +12,7 @@ use Rattle.moreau.proofs.Sums.{∑-at, ∑-zero}
 use Rattle.moreau.proofs.Totals.{total-empty}
 use Rattle.moreau.proofs.Messages.{formed}
 use Rattle.moreau.proofs.Shares.{owner-plus-∑Y, owner-is-∑share}
-use Rattle.moreau.proofs.Steps.{dec-above-zero}
+use Rattle.moreau.proofs.Here.{dec-above-zero}
 use Rattle.moreau.proofs.Reached.{sound}
 
 module _ {May : Guard} (i : May implies WeakGuard) {D : Config} (r : Reachable May D) (p : ℕ) (l : p < D .pointers) where
@@ -64,4 +64,4 @@ module _ {May : Guard} (i : May implies WeakGuard) {D : Config} (r : Reachable M
 pub dec-never-meets-zero : {May : Guard} → May implies WeakGuard → {D : Config} → Reachable May D → (s₁ s₂ p : ℕ) → DEC s₁ s₂ p ∈ D .pool → May D s₁ s₂ p → 0 < D .send s₂ p
 dec-never-meets-zero i {D} r s₁ s₂ p h g =
     let l = formed r .shape (DEC s₁ s₂ p) h .0 in
-    dec-above-zero D (formed r) p l (sound i r p l) s₁ s₂ h (i D s₁ s₂ p h g)
+    dec-above-zero D (formed r) p l (sound i r p l) s₁ s₂ h (i D r s₁ s₂ p h g)
