@@ -1,15 +1,16 @@
 -- The ledger of one pointer: an entry that is fair keeps the invariant.
-use Prim.Native.Nat.{ℕ, _+_, _-_, _≤_, _<_}
+use Prim.Native.Nat.{ℕ, _+_, _≤_, _<_}
 use mathlib.Core.Path.{_≡_, refl}
 use mathlib.Core.Logic.{_≢_}
 use mathlib.Core.Bool.{Bool, true}
 use mathlib.Core.Option.{Option, none, some}
 use native.Mathlib.Omega.{arith}
-use Rattle.moreau.specs.StateSpace.{Msg, DEC, INC-DEC, COPY, pointer, BagOf, INT, ⟅_⟆, _∪_, _∖_, _∈_, Config}
+use Rattle.moreau.specs.StateSpace.{Msg, DEC, INC-DEC, COPY, pointer, BagOf, INT, ⟅_⟆, _∪_, Config}
+use Rattle.moreau.specs.Transformers.{_▹_, post}
 use Rattle.moreau.specs.Counts.{∑, under, Weight, Each, sent, holders, inTransit, X, Y}
 use Rattle.moreau.proofs.Sums.{∑-ext, ∑-add}
-use Rattle.moreau.proofs.Bags.{one-within}
 use Rattle.moreau.proofs.Totals.{total-ext, total-union}
+use Rattle.moreau.proofs.Frame.{turned}
 use Rattle.moreau.proofs.Invariant.{Ranked, Sound}
 use Rattle.moreau.proofs.OneMessage.{of, All, bag, size, at, owed, waits, wait, Fits, of-wait-zero, of-sites, of-owed, of-waits, of-wait, of-weight}
 
@@ -21,10 +22,6 @@ pub record Entry : Type 0 where
   pub up : Option ℕ
   pub off : Option ℕ
   pub on : Option ℕ
-
--- the configuration with other tables and another pool
-abbrev pub turned : Config → (ℕ → ℕ → ℕ) → (ℕ → ℕ → Bool) → BagOf Msg → Config
-turned D send rec pool = record { sites = D .sites; pointers = D .pointers; owner = D .owner; send = send; rec = rec; pool = pool }
 
 module _ (D : Config) (p : ℕ) (E : Entry) (send : ℕ → ℕ → ℕ) (rec : ℕ → ℕ → Bool) where
   -- the tables after the entry
@@ -126,23 +123,19 @@ module _ (D : Config) (p : ℕ) (lo : D .owner p < D .sites) (I : Sound D p) (E 
     falls = λ x y w h. I .ranked .falls x y w (omega (arith, messages (INC-DEC x y p w) refl, of-wait-zero (E .new) z x y p w));
   })
 
--- ---- the entries of the transformers: a message is posted, taken, or taken and replied to
+-- ---- the entries of the transformers: a message may have left the pool, and one may be posted
 
-module _ (D : Config) (p : ℕ) (lo : D .owner p < D .sites) (I : Sound D p) (down up off on : Option ℕ) (send : ℕ → ℕ → ℕ) (rec : ℕ → ℕ → Bool) where
-  abbrev pub entry : Option Msg → Option Msg → Entry
-  entry gone new = record { gone = gone; new = new; down = down; up = up; off = off; on = on }
+module _ (D : Config) (p : ℕ) (lo : D .owner p < D .sites) (I : Sound D p) (gone : Option Msg) (down up off on : Option ℕ)
+    (send : ℕ → ℕ → ℕ) (rec : ℕ → ℕ → Bool) (pool : BagOf Msg) (left : (m : Msg) → pool m + bag gone m ≡ D .pool m) where
+  abbrev pub entry : Option Msg → Entry
+  entry new = record { gone = gone; new = new; down = down; up = up; off = off; on = on }
 
-  pub posted : (m : Msg) → Booked D p (entry none (some m)) send rec → Fair D p (entry none (some m)) send rec → wait m ≡ 0 → Sound (turned D send rec (D .pool ∪ ⟅ m ⟆)) p
-  posted m = keep D p lo I (entry none (some m)) send rec (D .pool ∪ ⟅ m ⟆) (λ m′ e. omega arith)
+  pub posts-nothing : Booked D p (entry none) send rec → Fair D p (entry none) send rec → Sound (turned D send rec pool) p
+  posts-nothing b f = keep D p lo I (entry none) send rec pool (λ m e. omega (arith, left m)) b f refl
 
-  module _ (g : Msg) (h : g ∈ D .pool) where
-    pub taken : Booked D p (entry (some g) none) send rec → Fair D p (entry (some g) none) send rec → Sound (turned D send rec (D .pool ∖ ⟅ g ⟆)) p
-    taken b f = keep D p lo I (entry (some g) none) send rec (D .pool ∖ ⟅ g ⟆) (λ m′ e. omega (arith, one-within (D .pool) g h m′)) b f refl
+  module _ (m : Msg) (b : Booked D p (entry (some m)) send rec) (f : Fair D p (entry (some m)) send rec) where
+    pub posts-ranked : Ranked p (pool ∪ ⟅ m ⟆) → Sound (turned D send rec pool ▹ post m) p
+    posts-ranked = keep-ranked D p lo I (entry (some m)) send rec (pool ∪ ⟅ m ⟆) (λ m′ e. omega (arith, left m′)) b f
 
-    pub replied-ranked : (m : Msg) → Booked D p (entry (some g) (some m)) send rec → Fair D p (entry (some g) (some m)) send rec
-        → Ranked p (D .pool ∖ ⟅ g ⟆ ∪ ⟅ m ⟆) → Sound (turned D send rec (D .pool ∖ ⟅ g ⟆ ∪ ⟅ m ⟆)) p
-    replied-ranked m = keep-ranked D p lo I (entry (some g) (some m)) send rec (D .pool ∖ ⟅ g ⟆ ∪ ⟅ m ⟆) (λ m′ e. omega (arith, one-within (D .pool) g h m′))
-
-    pub replied : (m : Msg) → Booked D p (entry (some g) (some m)) send rec → Fair D p (entry (some g) (some m)) send rec
-        → wait m ≡ 0 → Sound (turned D send rec (D .pool ∖ ⟅ g ⟆ ∪ ⟅ m ⟆)) p
-    replied m = keep D p lo I (entry (some g) (some m)) send rec (D .pool ∖ ⟅ g ⟆ ∪ ⟅ m ⟆) (λ m′ e. omega (arith, one-within (D .pool) g h m′))
+    pub posts : wait m ≡ 0 → Sound (turned D send rec pool ▹ post m) p
+    posts = keep D p lo I (entry (some m)) send rec (pool ∪ ⟅ m ⟆) (λ m′ e. omega (arith, left m′)) b f

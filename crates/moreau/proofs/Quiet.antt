@@ -1,5 +1,5 @@
 -- The owner's counter is 0 exactly when no other site holds the pointer and no message about it is in transit.
-use Prim.Native.Nat.{ℕ, zero, suc, _+_, _-_, _≤_, _<_}
+use Prim.Native.Nat.{ℕ, zero, suc, _-_, _≤_, _<_}
 use mathlib.Core.Path.{_≡_, refl, sym, ap, _∙_}
 use mathlib.Core.Logic.{_≢_, _↔_}
 use mathlib.Core.Bool.{Bool, true, false, true≢false}
@@ -8,7 +8,7 @@ use native.Mathlib.Decide.{ℕ-discrete}
 use native.Mathlib.Omega.{arith}
 use Rattle.moreau.specs.StateSpace.{Msg, DEC, INC-DEC, COPY, pointer, INT, _∈_, Config}
 use Rattle.moreau.specs.Transitions.{Guard, WeakGuard, Reachable, _implies_}
-use Rattle.moreau.specs.Counts.{∑, under, Each, X, Y}
+use Rattle.moreau.specs.Counts.{under, Each, X, Y}
 use Rattle.moreau.specs.Claims.{Quiet}
 use Rattle.moreau.proofs.Sums.{if-same, ∑-some, ∑other-zero}
 use Rattle.moreau.proofs.Messages.{Formed, formed}

@@ -1,10 +1,9 @@
 -- The laws of totals over the messages about a pointer: a message that is posted adds its weight, one that is received takes it off.
-use Prim.Native.Nat.{ℕ, zero, suc, _+_, _-_, _*_, _≤_, _<_}
-use mathlib.Core.Path.{_≡_, refl, sym, ap, _∙_}
+use Prim.Native.Nat.{ℕ, _+_, _*_, _<_}
+use mathlib.Core.Path.{_≡_, refl, ap, _∙_}
 use mathlib.Core.Logic.{_≢_}
-use native.Mathlib.Decide.{ℕ-discrete}
 use native.Mathlib.Omega.{arith}
-use Rattle.moreau.specs.StateSpace.{Msg, DEC, INC-DEC, COPY, pointer, BagOf, ∅, ⟅_⟆, _∪_, _∖_, _∈_, _∉_}
+use Rattle.moreau.specs.StateSpace.{Msg, DEC, INC-DEC, COPY, pointer, BagOf, ⟅_⟆, _∪_, _∖_, _∈_, _∉_}
 use Rattle.moreau.specs.Counts.{∑, ∑related, total}
 use Rattle.moreau.proofs.Sums.{∑-ext, ∑-add, ∑-zero, ∑-pick}
 use Rattle.moreau.proofs.Bags.{no-zero-one, one-same, one-other, one-within}
@@ -121,7 +120,7 @@ module _ (S : ℕ) (w : Msg → ℕ) (m : Msg) (l : Within S m) where
   pub total-received : (M : BagOf Msg) → m ∈ M → total S (pointer m) w M ≡ total S (pointer m) w (M ∖ ⟅ m ⟆) + w m
   total-received M h = omega (
     arith,
-    total-ext S (pointer m) w M ((M ∖ ⟅ m ⟆) ∪ ⟅ m ⟆) (λ m′ e. omega (arith, one-within M m h m′)),
+    total-ext S (pointer m) w ((M ∖ ⟅ m ⟆) ∪ ⟅ m ⟆) M (λ m′ e. omega (arith, one-within M m h m′)),
     total-union S (pointer m) w (M ∖ ⟅ m ⟆) ⟅ m ⟆,
     total-one,
   )
