@@ -33,16 +33,18 @@ module _ {D : Type 0} (L : Layout D) (W : Laws L) where
       let k1 = kept-by L r1 in
       let in-pool = kept-slots L k1 (c .room .in-pool) in
       let inside = kept-inside L k1 m (c .from-site, c .to-site, c .a-pointer) in
-      let raised = setCounter d from p n in
-      (record {
-        in-range = (c .from-site, c .to-site, c .a-pointer);
-        may = record { apart = c .apart; access = access (c .from-site) (c .a-pointer) (c .access) };
-        after =
-            slot-means L W raised k m (r1 .good) in-pool inside
-            ∙ ap (λ (x : Posted). posted m (taken x (meaning L raised))) (r1 .as-messages k (c .room .in-pool) ∙ c .room .unused)
-            ∙ ap (post (COPY from to p)) (counter-means L W d from p n (c .good) (c .from-site) (c .a-pointer))
-            ∙ ap (λ (v : ℕ). post (COPY from to p) ((send-T (from, p) ≔ v + 1) (meaning L d))) (sym (sent L d from p (c .from-site) (c .a-pointer)));
-      }, kept-then L k1 (kept-by L (W .posts raised k m (r1 .good) in-pool inside)))
+      let raised = setCounter d from p n in (
+        record {
+          in-range = (c .from-site, c .to-site, c .a-pointer);
+          may = record { apart = c .apart; access = access (c .from-site) (c .a-pointer) (c .access) };
+          after =
+              slot-means L W raised k m (r1 .good) in-pool inside
+              ∙ ap (λ (x : Posted). posted m (taken x (meaning L raised))) (r1 .as-messages k (c .room .in-pool) ∙ c .room .unused)
+              ∙ ap (post (COPY from to p)) (counter-means L W d from p n (c .good) (c .from-site) (c .a-pointer))
+              ∙ ap (λ (v : ℕ). post (COPY from to p) ((send-T (from, p) ≔ v + 1) (meaning L d))) (sym (sent L d from p (c .from-site) (c .a-pointer)));
+        },
+        kept-then L k1 (kept-by L (W .posts raised k m (r1 .good) in-pool inside)),
+      )
     where
       access : from < sites d → p < pointers d → (from ≡ owner d p) ⊎ (cell d from p ≡ 1) → (from ≡ meaning L d .owner p) ⊎ (meaning L d .rec from p ≡ true)
       access ls lp (inl q) = inl q
@@ -59,20 +61,22 @@ module _ {D : Type 0} (L : Layout D) (W : Laws L) where
       let k1 = kept-by L r1 in
       let in-pool = kept-slots L k1 (c .room .in-pool) in
       let inside = kept-inside L k1 m (c .a-site, W .owner-inside d (c .good) p (c .a-pointer), c .a-pointer) in
-      let emptied = setCell d site p 0 in
-      (record {
-        in-range = (c .a-site, c .a-pointer);
-        may = record {
-          unsent = sent L d site p (c .a-site) (c .a-pointer) ∙ c .uncounted;
-          held = holds L d site p (c .a-site) (c .a-pointer) ∙ eq-eqb _ _ (c .held);
-          other = other (c .other);
-        };
-        after =
-            slot-means L W emptied k m (r1 .good) in-pool inside
-            ∙ ap (λ (x : Posted). posted m (taken x (meaning L emptied))) (r1 .as-messages k (c .room .in-pool) ∙ c .room .unused)
-            ∙ ap (post (DEC site (owner d p) p)) (cell-means L W d site p 0 (c .good) (c .a-site) (c .a-pointer) (omega arith))
-            ∙ same-owner;
-      }, kept-then L k1 (kept-by L (W .posts emptied k m (r1 .good) in-pool inside)))
+      let emptied = setCell d site p 0 in (
+        record {
+          in-range = (c .a-site, c .a-pointer);
+          may = record {
+            unsent = sent L d site p (c .a-site) (c .a-pointer) ∙ c .uncounted;
+            held = holds L d site p (c .a-site) (c .a-pointer) ∙ eq-eqb _ _ (c .held);
+            other = other (c .other);
+          };
+          after =
+              slot-means L W emptied k m (r1 .good) in-pool inside
+              ∙ ap (λ (x : Posted). posted m (taken x (meaning L emptied))) (r1 .as-messages k (c .room .in-pool) ∙ c .room .unused)
+              ∙ ap (post (DEC site (owner d p) p)) (cell-means L W d site p 0 (c .good) (c .a-site) (c .a-pointer) (omega arith))
+              ∙ same-owner;
+        },
+        kept-then L k1 (kept-by L (W .posts emptied k m (r1 .good) in-pool inside)),
+      )
     where
       other : site ≢ owner d p → meaning L d .owner p ≢ site
       other apart q = apart (sym q)

@@ -6,7 +6,7 @@ use mathlib.Core.Bool.{Bool, true, false}
 use native.Mathlib.Omega.{arith}
 use lib.Dec.{eqb}
 use borrow.Author.Tests.{eq-eqb, ne-eqb, eqb-true, lt-ltb}
-use Rattle.moreau.proofs.Guards.{weak-guard}
+use Rattle.moreau.specs.Transitions.{Guard, WeakGuard, _implies_}
 use Rattle.moreau.proofs.Quiet.{owner-zero-iff-quiet}
 use Rattle.model.specs.declared.Posted.the-variants.{Nothing}
 use Rattle.model.specs.declared.Answer.{Answer}
@@ -23,17 +23,17 @@ use Rattle.model.proofs.KeptLaws.{sent}
 use Rattle.model.proofs.QuietLaws.{quiet-means}
 use Rattle.model.proofs.ReachedLaws.{Guarded, sound}
 
-module _ {D : Type 0} (L : Layout D) (W : Laws L) (guarded : Guarded L W) where
+module _ {D : Type 0} (L : Layout D) (W : Laws L) (May : Guard) (i : May implies WeakGuard) (guarded : Guarded L W May) where
   open Layout L using (sites, pointers, owner, counter, slots, message)
 
   -- From an opened desk, after any calls in any order: the owner's counter is 0 if and only if no other site holds the pointer and no message in flight names it.
   pub counter-zero-iff-quiet : {d : D} → Reached L d → (p : ℕ) → p < pointers d → (counter d (owner d p) p ≡ 0) ↔ Quiet L d p
   unfolding configOf
   counter-zero-iff-quiet {d} r p lp =
-      let s = sound L W guarded r in
+      let s = sound L W May guarded r in
       let own = W .owner-inside d (s .good) p lp in
       let same = sent L d (owner d p) p own lp in
-      let machine = owner-zero-iff-quiet weak-guard (s .reachable) p lp in
+      let machine = owner-zero-iff-quiet i (s .reachable) p lp in
       let look = quiet-means L W d p (s .good) lp in
       ((λ z. look .0 (machine .0 (same ∙ z))), (λ quiet. sym same ∙ machine .1 (look .1 quiet)))
 
@@ -41,16 +41,17 @@ module _ {D : Type 0} (L : Layout D) (W : Laws L) (guarded : Guarded L W) where
   asked-at-owner : {d : D} → Reached L d → (p : ℕ) → p < pointers d → step L d (Ask (owner d p) p) .answer ≡ accepted (1 when eqb (counter d (owner d p) p) 0) Nothing
   unfolding step ask askNumber asked front
   asked-at-owner {d} r p lp =
-      let s = sound L W guarded r in
+      let s = sound L W May guarded r in
       let own = W .owner-inside d (s .good) p lp in
       rw (s .good, lt-ltb (owner d p) (sites d) own, lt-ltb p (pointers d) lp, eq-eqb (owner d p) (owner d p) refl)
 
   -- Ask answers 1 exactly when the pointer is quiet.
   pub ask-says-quiet : {d : D} → Reached L d → (p : ℕ) → p < pointers d → (step L d (Ask (owner d p) p) .answer ≡ accepted 1 Nothing) ↔ Quiet L d p
   ask-says-quiet {d} r p lp =
-      let iff = counter-zero-iff-quiet r p lp in
-      ((λ e. iff .0 (one-when (counter d (owner d p) p) (ap (λ (a : Answer). a .value) (sym (asked-at-owner r p lp) ∙ e)))),
-      (λ quiet. asked-at-owner r p lp ∙ ap (λ (b : Bool). accepted (1 when b) Nothing) (eq-eqb _ _ (iff .1 quiet))))
+      let iff = counter-zero-iff-quiet r p lp in (
+        (λ e. iff .0 (one-when (counter d (owner d p) p) (ap (λ (a : Answer). a .value) (sym (asked-at-owner r p lp) ∙ e)))),
+        (λ quiet. asked-at-owner r p lp ∙ ap (λ (b : Bool). accepted (1 when b) Nothing) (eq-eqb _ _ (iff .1 quiet))),
+      )
     where
       one-when : (n : ℕ) → (1 when eqb n 0) ≡ 1 → n ≡ 0
       one-when n = go (eqb n 0) refl

@@ -84,9 +84,9 @@ module _ {D : Type 0} (L : Layout D) where
     message-exactly d (Decr a b p) =
         by-test 8 (some (slots d) (λ slot. isIncDec a b p (message d slot))) (SomeIncDec L d a b p) _ _
         (λ e.
-          let f = some-found (λ slot. isIncDec a b p (message d slot)) (slots d) e in
-          let m = inc-dec-is a b p (message d (f .0)) (f .2) in
-          record { slot = f .0; third = m .0; in-pool = f .1; holds = m .1 })
+        let f = some-found (λ slot. isIncDec a b p (message d slot)) (slots d) e in
+        let m = inc-dec-is a b p (message d (f .0)) (f .2) in
+        record { slot = f .0; third = m .0; in-pool = f .1; holds = m .1 })
         (λ why. some-there (λ slot. isIncDec a b p (message d slot)) (slots d) (why .slot) (why .in-pool) (ap (isIncDec a b p) (why .holds) ∙ is-inc-dec a b (why .third) p))
         (last-test 9 (eqb (counter d b p) 0) (counter d b p ≡ 0) (eqb-true _ _) (eq-eqb _ _))
     message-exactly d (IncDec a b c p) = last-test 5 (eqb (counter d b p) 65535) (counter d b p ≡ 65535) (eqb-true _ _) (eq-eqb _ _)

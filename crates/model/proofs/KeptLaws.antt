@@ -6,7 +6,7 @@ use native.Mathlib.Decide.{ℕ-discrete}
 use lib.Dec.{eqb}
 use Rattle.moreau.specs.StateSpace.{Config}
 use Rattle.moreau.specs.Transformers.{assign, send-T_≔_, rec-T_≔_}
-use Rattle.moreau.proofs.TransformerLaws.{assign-here, assign-site, assign-pointer}
+use Rattle.moreau.proofs.Tables.{assign-here, assign-site, assign-pointer}
 use Rattle.model.specs.declared.Posted.{Posted}
 use Rattle.model.specs.Layout.{Layout}
 use Rattle.model.specs.Calls.{lentRefusal}

@@ -1,9 +1,10 @@
--- What is true of the definitions.
+-- What is true of the definitions. Laws of the words and of the layout; the demands over any lawful layout; the desk of document 01.
 pub mod TestLaws
 pub mod QuestionLaws
 pub mod PlaceLaws
 pub mod SlotLaws
 pub mod ShapeLaws
+pub mod FlatLaws
 pub mod RowLaws
 pub mod Exactly
 pub mod Demand1
@@ -15,14 +16,14 @@ pub mod CopyAndDelete
 pub mod ReceiveWrites
 pub mod ReceiveTransition
 pub mod HeldLaws
-pub mod Converse
 pub mod Demand2
+pub mod Converse
 pub mod QuietLaws
 pub mod ReachedLaws
 pub mod Demand3
 pub mod ShareLaws
 pub mod Shares
 pub mod Lemma4
+pub mod TheDesk
 pub mod Fourteen
 pub mod Edges
-pub mod FlatLaws

@@ -9,7 +9,7 @@ use lib.Dec.{ltb, eqb}
 use borrow.Author.Tests.{eq-eqb, ne-eqb, ltb-true, lt-ltb}
 use Rattle.moreau.specs.StateSpace.{Msg, COPY, DEC, INC-DEC, BagOf, Config, _∪_, _∖_, initial}
 use Rattle.moreau.specs.Transformers.{assign, send-T_≔_, rec-T_≔_, post, unpost}
-use Rattle.moreau.proofs.TransformerLaws.{assign-here, assign-site, assign-pointer}
+use Rattle.moreau.proofs.Tables.{assign-here, assign-site, assign-pointer}
 use Rattle.model.specs.declared.Posted.{Posted}
 use Rattle.model.specs.declared.Posted.the-variants.{Copy, Dec as Decr, IncDec, Nothing}
 use Rattle.model.specs.Refusals.{_when_}
@@ -106,13 +106,13 @@ module _ {D : Type 0} (L : Layout D) where
   reads-mean d e {counters} {cells} {messages} r =
       ap (λ (f : Frame). configOf (f .sites) (f .pointers) (f .owner) (f .slots) (counter e) (cell e) (message e)) (r .same)
       ∙ (λ w. record {
-          sites = sites d;
-          pointers = pointers d;
-          owner = owner d;
-          send = within-same (sites d) (pointers d) (counter e) counters (λ s p. 0) (r .as-counters) w;
-          rec = within-same (sites d) (pointers d) (λ s p. eqb (cell e s p) 1) (λ s p. eqb (cells s p) 1) (λ s p. eqb (owner d p) s) (λ s p ls lp. ap (λ n. eqb n 1) (r .as-cells s p ls lp)) w;
-          pool = λ m. total-same (slots d) (λ i. meant (message e i) m) (λ i. meant (messages i) m) (λ i li. ap (λ x. meant x m) (r .as-messages i li)) w;
-        })
+        sites = sites d;
+        pointers = pointers d;
+        owner = owner d;
+        send = within-same (sites d) (pointers d) (counter e) counters (λ s p. 0) (r .as-counters) w;
+        rec = within-same (sites d) (pointers d) (λ s p. eqb (cell e s p) 1) (λ s p. eqb (cells s p) 1) (λ s p. eqb (owner d p) s) (λ s p ls lp. ap (λ n. eqb n 1) (r .as-cells s p ls lp)) w;
+        pool = λ m. total-same (slots d) (λ i. meant (message e i) m) (λ i. meant (messages i) m) (λ i li. ap (λ x. meant x m) (r .as-messages i li)) w;
+      })
 
   module _ (W : Laws L) where
     -- an opening makes the initial configuration
@@ -121,13 +121,13 @@ module _ {D : Type 0} (L : Layout D) where
     opening-means d e o =
         reads-mean d (cleared d) (W .clears d e o)
         ∙ (λ w. record {
-            sites = sites d;
-            pointers = pointers d;
-            owner = owner d;
-            send = λ s p. either (ltb s (sites d) && ltb p (pointers d)) w;
-            rec = λ s p. owns s (owner d p) (ltb s (sites d) && ltb p (pointers d)) w;
-            pool = λ m. total-of-zeros (slots d) (λ i. meant Nothing m) (λ i li. refl) w;
-          })
+          sites = sites d;
+          pointers = pointers d;
+          owner = owner d;
+          send = λ s p. either (ltb s (sites d) && ltb p (pointers d)) w;
+          rec = λ s p. owns s (owner d p) (ltb s (sites d) && ltb p (pointers d)) w;
+          pool = λ m. total-of-zeros (slots d) (λ i. meant Nothing m) (λ i li. refl) w;
+        })
       where
         either : (b : Bool) → _≡_ {A = ℕ} (cond b 0 0) 0
         either true = refl
@@ -146,26 +146,26 @@ module _ {D : Type 0} (L : Layout D) where
     counter-means d s p n e ls lp =
         reads-mean d (setCounter d s p n) (W .sets-counter d s p n e ls lp)
         ∙ (λ w. record {
-            sites = sites d;
-            pointers = pointers d;
-            owner = owner d;
-            send = within-changed (λ x. x) (sites d) (pointers d) (counter d) (λ s p. 0) s p n ls lp w;
-            rec = meaning L d .rec;
-            pool = meaning L d .pool;
-          })
+          sites = sites d;
+          pointers = pointers d;
+          owner = owner d;
+          send = within-changed (λ x. x) (sites d) (pointers d) (counter d) (λ s p. 0) s p n ls lp w;
+          rec = meaning L d .rec;
+          pool = meaning L d .pool;
+        })
 
     pub cell-means : (d : D) (s p n : ℕ) → lentRefusal L d ≡ 0 → s < sites d → p < pointers d → n ≤ 1 → meaning L (setCell d s p n) ≡ (rec-T (s, p) ≔ eqb n 1) (meaning L d)
     unfolding configOf
     cell-means d s p n e ls lp ln =
         reads-mean d (setCell d s p n) (W .sets-cell d s p n e ls lp ln)
         ∙ (λ w. record {
-            sites = sites d;
-            pointers = pointers d;
-            owner = owner d;
-            send = meaning L d .send;
-            rec = within-changed (λ x. eqb x 1) (sites d) (pointers d) (cell d) (λ s p. eqb (owner d p) s) s p n ls lp w;
-            pool = meaning L d .pool;
-          })
+          sites = sites d;
+          pointers = pointers d;
+          owner = owner d;
+          send = meaning L d .send;
+          rec = within-changed (λ x. eqb x 1) (sites d) (pointers d) (cell d) (λ s p. eqb (owner d p) s) s p n ls lp w;
+          pool = meaning L d .pool;
+        })
 
     pub slot-means : (d : D) (i : ℕ) (m : Posted) → lentRefusal L d ≡ 0 → i < slots d → Inside (sites d) (pointers d) m
         → meaning L (L .post d i m) ≡ posted m (taken (message d i) (meaning L d))

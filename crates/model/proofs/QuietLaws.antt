@@ -52,15 +52,16 @@ module _ {D : Type 0} (L : Layout D) (W : Laws L) where
     -- the look over sites and slots is the machine's
     pub quiet-means : QuietConfig (meaning L d) p ↔ Quiet L d p
     unfolding configOf
-    quiet-means =
-        ((λ quiet. record {
-          no-holder = λ s ls apart. off s ls (sym (holds L d s p ls lp) ∙ quiet .no-holder s ls apart);
-          no-message = λ slot l. unnamed (message d slot) slot l refl quiet;
-        }),
-        (λ quiet. record {
-          no-holder = λ s ls apart. holds L d s p ls lp ∙ ap (λ (n : ℕ). eqb n 1) (quiet .no-holder s ls apart);
-          no-message = λ m about. total-of-zeros (slots d) (λ slot. meant (message d slot) m) (λ slot l. elsewhere (message d slot) m about (quiet .no-message slot l));
-        }))
+    quiet-means = (
+      (λ quiet. record {
+        no-holder = λ s ls apart. off s ls (sym (holds L d s p ls lp) ∙ quiet .no-holder s ls apart);
+        no-message = λ slot l. unnamed (message d slot) slot l refl quiet;
+      }),
+      (λ quiet. record {
+        no-holder = λ s ls apart. holds L d s p ls lp ∙ ap (λ (n : ℕ). eqb n 1) (quiet .no-holder s ls apart);
+        no-message = λ m about. total-of-zeros (slots d) (λ slot. meant (message d slot) m) (λ slot l. elsewhere (message d slot) m about (quiet .no-message slot l));
+      }),
+    )
       where
         off : (s : ℕ) → s < sites d → eqb (cell d s p) 1 ≡ false → cell d s p ≡ 0
         off s ls e = omega (arith, W .cell-bit d good s p ls lp, eqb-false (cell d s p) 1 e)

@@ -109,7 +109,7 @@ module _ {D : Type 0} (L : Layout D) (W : Laws L) where
         slot-means L W marked slot (replied L d slot) (k3 .good) (kept-slots L k3 (c .in-pool)) inside
         ∙ ap (λ (y : Posted). posted (replied L d slot) (taken y (meaning L marked))) still-there
         ∙ ap (λ (C : Config). posted (replied L d slot) (taken x C))
-          (cell-means L W counted site about _ (k2 .good) (kept-sites L k2 (there .0)) (kept-pointers L k2 (there .1)) bit
-          ∙ ap (rec-T (site, about) ≔ eqb (cellAfter x (cellThere L d slot)) 1)
-            (counter-means L W noted site about _ (k1 .good) (kept-sites L k1 (there .0)) (kept-pointers L k1 (there .1))
-            ∙ ap (send-T (site, about) ≔ counterAfter x (counterThere L d slot)) (handled-means L W d slot (c .good) (c .in-pool))))
+        (cell-means L W counted site about _ (k2 .good) (kept-sites L k2 (there .0)) (kept-pointers L k2 (there .1)) bit
+        ∙ ap (rec-T (site, about) ≔ eqb (cellAfter x (cellThere L d slot)) 1)
+        (counter-means L W noted site about _ (k1 .good) (kept-sites L k1 (there .0)) (kept-pointers L k1 (there .1))
+        ∙ ap (send-T (site, about) ≔ counterAfter x (counterThere L d slot)) (handled-means L W d slot (c .good) (c .in-pool))))

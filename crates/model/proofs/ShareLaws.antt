@@ -56,8 +56,8 @@ one-inc-dec : (S x y z q a b p : ℕ) → z < S → ∑ S (λ c. ⟅ INC-DEC x y
 one-inc-dec S x y z q a b p lz =
     by-names x y q a b p (λ n. ∑ S (λ c. ⟅ INC-DEC x y q z ⟆ (INC-DEC a b p c)) ≡ n)
     (λ e f g.
-      ∑-pick S z (λ c. ⟅ INC-DEC x y q z ⟆ (INC-DEC a b p c)) lz (λ c lc apart. one-other (INC-DEC x y q z) (INC-DEC a b p c) (λ i. apart (cc)))
-      ∙ rw (e, f, g) (one-same (INC-DEC a b p z)))
+    ∑-pick S z (λ c. ⟅ INC-DEC x y q z ⟆ (INC-DEC a b p c)) lz (λ c lc apart. one-other (INC-DEC x y q z) (INC-DEC a b p c) (λ i. apart (cc)))
+    ∙ rw (e, f, g) (one-same (INC-DEC a b p z)))
     (λ h. ∑-zero S (λ c. ⟅ INC-DEC x y q z ⟆ (INC-DEC a b p c)) (λ c lc. one-other (INC-DEC x y q z) (INC-DEC a b p c) (λ e. h (cc, cc, cc))))
 
 -- messages of different kinds
@@ -120,4 +120,4 @@ module _ {D : Type 0} (L : Layout D) (W : Laws L) (d : D) (good : lentRefusal L 
       let o = owner d p in
       sym (∑-of-totals (sites d) (slots d) (λ i c. meant (message d i) (INC-DEC s o p c))
       ∙ total-same (slots d) (λ i. ∑ (sites d) (λ c. meant (message d i) (INC-DEC s o p c))) (λ i. incDecs s o p (message d i))
-        (λ i l. inc-dec-count (sites d) (pointers d) (message d i) s o p (W .inside d good i l)))
+      (λ i l. inc-dec-count (sites d) (pointers d) (message d i) s o p (W .inside d good i l)))

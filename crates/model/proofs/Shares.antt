@@ -8,8 +8,8 @@ use native.Mathlib.Omega.{arith}
 use lib.Dec.{eqb}
 use lib.IntN.{ℤ, pos, _+ℤ_, _-ℤ_, +ℤ-negℤ-cancel, pos-+ℤ-pos}
 use borrow.Author.Tests.{eq-eqb, ne-eqb}
+use Rattle.moreau.specs.Transitions.{Guard, WeakGuard, _implies_}
 use Rattle.moreau.specs.Counts.{_unless_is_, ∑, ∑other, X, Y}
-use Rattle.moreau.proofs.Guards.{weak-guard}
 use Rattle.moreau.proofs.Counters.{share-never-negative, owner-counter-is-sum-of-shares}
 use Rattle.model.specs.Layout.{Layout}
 use Rattle.model.specs.Laws.{Laws}
@@ -38,15 +38,15 @@ sum-of-pos (suc n) f g h =
     ∙ pos-+ℤ-pos (∑ n g) (g n)
     ∙ ap pos (omega arith)
 
-module _ {D : Type 0} (L : Layout D) (W : Laws L) (guarded : Guarded L W) {d : D} (r : Reached L d) (p : ℕ) (lp : p < L .pointers d) where
+module _ {D : Type 0} (L : Layout D) (W : Laws L) (May : Guard) (i : May implies WeakGuard) (guarded : Guarded L W May) {d : D} (r : Reached L d) (p : ℕ) (lp : p < L .pointers d) where
   open Layout L using (sites, owner, counter)
 
   -- Y is at most X, by the slots
   below : (s : ℕ) → s < sites d → s ≢ owner d p → shareMinus L d s p ≤ sharePlus L d s p
   unfolding configOf
   below s ls apart =
-      let t = sound L W guarded r in
-      let h = share-never-negative weak-guard (t .reachable) p lp s apart in
+      let t = sound L W May guarded r in
+      let h = share-never-negative i (t .reachable) p lp s apart in
       omega (arith, plus-is-X L W d (t .good) s p ls lp, minus-is-Y L W d (t .good) s p ls lp)
 
   -- From an opened desk no share is negative.
@@ -61,7 +61,7 @@ module _ {D : Type 0} (L : Layout D) (W : Laws L) (guarded : Guarded L W) {d : D
       go : Dec (s ≡ owner d p) → cond (eqb s (owner d p)) (pos 0) (shareOf L d s p) ≡ pos (cond (eqb s (owner d p)) 0 (X (meaning L d) p s - Y (meaning L d) p s))
       go (yes e) = rw (eq-eqb s (owner d p) e)
       go (no apart) =
-          let good = sound L W guarded r .good in
+          let good = sound L W May guarded r .good in
           rw (ne-eqb s (owner d p) apart)
           (share-is-not-negative s ls apart ∙ ap pos (ap₂ (λ a b. a - b) (plus-is-X L W d good s p ls lp) (minus-is-Y L W d good s p ls lp)))
 
@@ -69,6 +69,6 @@ module _ {D : Type 0} (L : Layout D) (W : Laws L) (guarded : Guarded L W) {d : D
   pub owner-counter-is-shares-of-others : sharesOfOthers L d p ≡ pos (counter d (owner d p) p)
   unfolding sharesOfOthers configOf
   owner-counter-is-shares-of-others =
-      let t = sound L W guarded r in
+      let t = sound L W May guarded r in
       sum-of-pos (sites d) (λ s. cond (eqb s (owner d p)) (pos 0) (shareOf L d s p)) (λ s. X (meaning L d) p s - Y (meaning L d) p s unless s is owner d p) one-share
-      ∙ ap pos (sym (owner-counter-is-sum-of-shares weak-guard (t .reachable) p lp) ∙ sent L d (owner d p) p (W .owner-inside d (t .good) p lp) lp)
+      ∙ ap pos (sym (owner-counter-is-sum-of-shares i (t .reachable) p lp) ∙ sent L d (owner d p) p (W .owner-inside d (t .good) p lp) lp)
