@@ -41,7 +41,7 @@ module _ {D : Type 0} (L : Layout D) where
       → FirstOf (lentRows L d (3 because reason ∷ rows)) (front L d named orElse rest)
   unfolding front
   front-rows d named reason rows rest yes-then then-yes r =
-      rw (or-else-assoc (lentRefusal L d) (3 when not named) rest)
+      rw (or-else-assoc (lentRefusal L d) _ rest)
       (lent-rows d (3 because reason ∷ rows) (3 when not named orElse rest) (by-test 2 (not named) reason rows rest yes-then then-yes r))
 
   pub open-exactly : (d : D) → FirstOf (openRows L d) (openRefusal L d)

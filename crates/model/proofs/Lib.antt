@@ -13,6 +13,7 @@ pub mod PoolLaws
 pub mod MeaningLaws
 pub mod KeptLaws
 pub mod CopyAndDelete
+pub mod ReplyLaws
 pub mod ReceiveWrites
 pub mod ReceiveTransition
 pub mod HeldLaws

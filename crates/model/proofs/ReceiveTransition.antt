@@ -24,6 +24,7 @@ use Rattle.model.proofs.PoolLaws.{term-in-total}
 use Rattle.model.proofs.MeaningLaws.{posted}
 use Rattle.model.proofs.KeptLaws.{Kept, sent, holds, same-send, same-rec}
 use Rattle.model.proofs.Accepted.{Received, receive-accepted}
+use Rattle.model.proofs.ReplyLaws.{reply-held, reply-home, reply-away}
 use Rattle.model.proofs.ReceiveWrites.{handledAs, receive-kept, receive-means}
 
 -- a bag of one message is of no other
@@ -73,18 +74,16 @@ module _ {D : Type 0} (L : Layout D) (W : Laws L) (d : D) where
       go : Dec (cell d b p ≡ 1) → Dec (a ≡ owner d p) → posted (reply (Copy a b p) (cell d b p) (owner d p)) (unpost (COPY a b p) ((rec-T (b, p) ≔ true) C)) ≡ RECEIVE (COPY a b p) (unpost (COPY a b p) C)
       go (yes held) _ =
           let h : C .rec b p ≡ true = holds L d b p lb lp ∙ eq-eqb _ _ held in
-          ap (λ (t : Bool). posted (cond t (Decr b a p) (cond (eqb a (owner d p)) Nothing (IncDec b (owner d p) a p))) (unpost (COPY a b p) ((rec-T (b, p) ≔ true) C))) (eq-eqb (cell d b p) 1 held)
+          ap (λ (x : Posted). posted x (unpost (COPY a b p) ((rec-T (b, p) ≔ true) C))) (reply-held a b p (cell d b p) (owner d p) held)
           ∙ ap (λ (E : Config). post (DEC b a p) (unpost (COPY a b p) E)) (same-rec C b p true h)
           ∙ sym (receive-held (unpost (COPY a b p) C) a b p h)
       go (no free) (yes home) =
           let h : C .rec b p ≡ false = holds L d b p lb lp ∙ ne-eqb _ _ free in
-          ap (λ (t : Bool). posted (cond t (Decr b a p) (cond (eqb a (owner d p)) Nothing (IncDec b (owner d p) a p))) (unpost (COPY a b p) ((rec-T (b, p) ≔ true) C))) (ne-eqb (cell d b p) 1 free)
-          ∙ ap (λ (t : Bool). posted (cond t Nothing (IncDec b (owner d p) a p)) (unpost (COPY a b p) ((rec-T (b, p) ≔ true) C))) (eq-eqb a (owner d p) home)
+          ap (λ (x : Posted). posted x (unpost (COPY a b p) ((rec-T (b, p) ≔ true) C))) (reply-home a b p (cell d b p) (owner d p) free home)
           ∙ sym (receive-home (unpost (COPY a b p) C) a b p h (home ∙ sym (owner-meant p)))
       go (no free) (no away) =
           let h : C .rec b p ≡ false = holds L d b p lb lp ∙ ne-eqb _ _ free in
-          ap (λ (t : Bool). posted (cond t (Decr b a p) (cond (eqb a (owner d p)) Nothing (IncDec b (owner d p) a p))) (unpost (COPY a b p) ((rec-T (b, p) ≔ true) C))) (ne-eqb (cell d b p) 1 free)
-          ∙ ap (λ (t : Bool). posted (cond t Nothing (IncDec b (owner d p) a p)) (unpost (COPY a b p) ((rec-T (b, p) ≔ true) C))) (ne-eqb a (owner d p) away)
+          ap (λ (x : Posted). posted x (unpost (COPY a b p) ((rec-T (b, p) ≔ true) C))) (reply-away a b p (cell d b p) (owner d p) free away)
           ∙ ap (λ (o : ℕ). post (INC-DEC b o p a) (unpost (COPY a b p) ((rec-T (b, p) ≔ true) C))) (sym (owner-meant p))
           ∙ sym (receive-away (unpost (COPY a b p) C) a b p h (λ q. away (q ∙ owner-meant p)))
 

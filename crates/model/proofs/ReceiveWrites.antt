@@ -1,22 +1,19 @@
 -- The writes of an accepted receive, one after another, on what the memory means.
 use Prim.Native.Nat.{ℕ, _≤_, _<_}
 use mathlib.Core.Path.{_≡_, ap, _∙_}
-use mathlib.Core.Bool.{Bool, true, false, cond}
-use native.Mathlib.Omega.{arith}
 use lib.Dec.{eqb}
 use Rattle.moreau.specs.StateSpace.{Config}
 use Rattle.moreau.specs.Transformers.{send-T_≔_, rec-T_≔_}
 use Rattle.model.specs.declared.Posted.{Posted}
-use Rattle.model.specs.declared.Posted.the-variants.{Copy, Dec as Decr, IncDec, Nothing}
-use Rattle.model.specs.Messages.{isNothing, receiver, pointerOf, counterAfter, cellAfter, reply}
+use Rattle.model.specs.Messages.{receiver, pointerOf, counterAfter, cellAfter, reply}
 use Rattle.model.specs.Layout.{Layout}
 use Rattle.model.specs.Calls.{received, counterThere, cellThere, replied}
 use Rattle.model.specs.Laws.{withCell, Inside, Reads, Laws}
 use Rattle.model.specs.Meaning.{meaning}
-use Rattle.model.proofs.TestLaws.{true-not-false}
 use Rattle.model.proofs.MeaningLaws.{posted, taken, counter-means, cell-means, slot-means, handled-means}
 use Rattle.model.proofs.KeptLaws.{Kept, kept-sites, kept-pointers, kept-slots, kept-inside, kept-by, kept-then}
 use Rattle.model.proofs.Accepted.{Received}
+use Rattle.model.proofs.ReplyLaws.{inside-there, bit-after, reply-inside}
 
 module _ {D : Type 0} (L : Layout D) (W : Laws L) where
   open Layout L using (sites, pointers, owner, counter, cell, slots, message, setCounter, setCell, handled)
@@ -28,30 +25,6 @@ module _ {D : Type 0} (L : Layout D) (W : Laws L) where
       let p = pointerOf x in
       posted (reply x (cell d a p) (owner d p))
       (taken x ((rec-T (a, p) ≔ eqb (cellAfter x (cell d a p)) 1) ((send-T (a, p) ≔ counterAfter x (counter d a p)) (meaning L d))))
-
-  -- the receiver and the pointer of a message in range, the cell after it, and its reply's names
-  inside-there : (S G : ℕ) (m : Posted) → isNothing m ≡ false → Inside S G m → (receiver m < S) × (pointerOf m < G)
-  inside-there S G (Copy a b p) f w = (w .1, w .2)
-  inside-there S G (Decr a b p) f w = (w .1, w .2)
-  inside-there S G (IncDec a b c p) f w = (w .1, w .3)
-  inside-there S G Nothing f w = true-not-false f
-
-  bit-after : (m : Posted) (n : ℕ) → n ≤ 1 → cellAfter m n ≤ 1
-  bit-after (Copy a b p) n h = omega arith
-  bit-after (Decr a b p) n h = h
-  bit-after (IncDec a b c p) n h = h
-  bit-after Nothing n h = h
-
-  reply-inside : (S G : ℕ) (m : Posted) (held o : ℕ) → o < S → Inside S G m → Inside S G (reply m held o)
-  reply-inside S G (Copy a b p) held o lo w = go (eqb held 1) (eqb a o)
-    where
-      go : (x y : Bool) → Inside S G (cond x (Decr b a p) (cond y Nothing (IncDec b o a p)))
-      go true y = (w .1, w .0, w .2)
-      go false true = tt
-      go false false = (w .1, lo, w .0, w .2)
-  reply-inside S G (Decr a b p) held o lo w = tt
-  reply-inside S G (IncDec a b c p) held o lo w = (w .1, w .2, w .3)
-  reply-inside S G Nothing held o lo w = tt
 
   module _ (d : D) (slot : ℕ) (c : Received L W d slot) where
     abbrev x : Posted
