@@ -1,14 +1,15 @@
 -- A digit and its number, a byte and its two digits: each way gives back what went in.
-use Prim.Native.Nat.{ℕ, _+_, _-_, _*_, _/_, _%_, _≤_, _<_}
+use Prim.Native.Nat.{ℕ, suc, _+_, _-_, _*_, _/_, _%_, _≤_, _<_}
 use mathlib.Core.Path.{_≡_, refl, sym, ap₂, _∙_}
 use mathlib.Core.Bool.{Bool, true, false, _&&_, cond}
-use mathlib.Core.List.{List, [], _∷_}
+use mathlib.Core.List.{List, [], _∷_, _++_}
 use native.Mathlib.Omega.{arith}
-use lib.Dec.{leb, ltb}
-use lib.ListN.{length}
-use borrow.Author.Tests.{lt-ltb, le-ltb, le-leb, lt-leb, ltb-true, ltb-false, leb-true}
+use lib.Dec.{leb, ltb, eqb}
+use lib.ListN.{length, getD, drop}
+use lib.Seq.{drop-cons}
+use borrow.Author.Tests.{lt-ltb, le-ltb, le-leb, lt-leb, ne-eqb, ltb-true, ltb-false, leb-true}
 use Rattle.model.proofs.TestLaws.{and-both}
-use Rattle.model.specs.Lines.{digitOf, numberOf, byteOf, digitsOf}
+use Rattle.model.specs.Lines.{digitOf, numberOf, byteOf, digitsOf, byteAt, newline, width}
 
 -- ---- the number of a character
 pub decimal-number : (c : ℕ) → 48 ≤ c → c ≤ 57 → numberOf c ≡ c - 48
@@ -97,3 +98,27 @@ pub length-digits : (bs : List ℕ) → length (digitsOf bs) ≡ length bs * 2
 unfolding digitsOf
 length-digits [] = refl
 length-digits (b ∷ bs) = let e = length-digits bs in omega arith
+
+-- a byte of a line and what its digits leave of the line: two characters more
+pub digits-of-byte-at : (line bs : List ℕ) (i : ℕ) → i * 2 + 2 ≤ length line → byteAt line i < 256 → digitsOf bs ≡ drop (i * 2 + 2) line
+    → digitsOf (byteAt line i ∷ bs) ≡ drop (i * 2) line
+unfolding digitsOf
+digits-of-byte-at line bs i h b e =
+    let d = digits-of-byte (getD line (i * 2) 0) (getD line (i * 2 + 1) 0) b in
+    let first : i * 2 < length line = omega arith in
+    let second : i * 2 + 1 < length line = omega arith in
+    let n : suc (i * 2) ≡ i * 2 + 1 = omega arith in
+    let m : suc (i * 2 + 1) ≡ i * 2 + 2 = omega arith in
+    rw (d .0, d .1, e, drop-cons line (i * 2) 0 first, n, drop-cons line (i * 2 + 1) 0 second, m)
+
+-- ---- no digit is a newline
+digit-by-not : (t : Bool) (n : ℕ) → eqb (cond t (48 + n) (55 + n)) newline ≡ false
+digit-by-not true n = ne-eqb (48 + n) newline (λ e. omega arith)
+digit-by-not false n = ne-eqb (55 + n) newline (λ e. omega arith)
+
+pub width-of-digits : (bs rest : List ℕ) → width (digitsOf bs ++ (newline ∷ rest)) ≡ length bs * 2
+unfolding width digitsOf
+width-of-digits [] rest = refl
+width-of-digits (b ∷ bs) rest =
+    let e = width-of-digits bs rest in
+    simp (digit-by-not (ltb (b / 16) 10) (b / 16), digit-by-not (ltb (b % 16) 10) (b % 16)) (omega arith)

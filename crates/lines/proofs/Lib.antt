@@ -3,3 +3,5 @@ pub mod DigitLaws
 pub mod CallLaws
 pub mod PlaceLaws
 pub mod StoreLaws
+pub mod RoundTrip
+pub mod EachLineOnce
