@@ -7,7 +7,8 @@ ghost use Prim.Native.Nat.{_+_};
 ghost use lib.Dec.{ltb};
 ghost use lib.ListN.{length};
 ghost use Rattle.model.specs.Lines.{endAt, nextAt};
-ghost use Rattle.lines.specs.Places.{movedTo};
+ghost use Rattle.lines.specs.Places.{movedTo, placeAfter};
+ghost use Rattle.lines.specs.Reading.{started, answerOf, movedOn};
 
 // Where the line that starts at a place ends.
 pub fn line_end(text: &[u8], at: usize) -> usize
@@ -56,4 +57,43 @@ pub fn past_at(text: &[u8], at: usize) -> usize
         return at;
     }
     past_newline(text, line_end(text, at))
+}
+
+// A reader stands over the lent text and knows how far it has come.
+pub struct Reader<'a> {
+    pub text: &'a [u8],
+    pub at: usize,
+}
+
+impl<'a> Reader<'a> {
+    // At the start of a text.
+    pub fn new(text: &'a [u8]) -> Reader<'a>
+        ensures { λ r. ⌜ r ≡ started (text .entry) ⌝ }
+    {
+        Reader { text, at: 0 }
+    }
+
+    // What it answers where it stands.
+    pub fn next(self) -> Next
+        ensures { λ r. ⌜ r ≡ answerOf (self .entry) ⌝ }
+    {
+        next_at(self.text, self.at)
+    }
+
+    // Past the line where it stands; at the end it stays.
+    pub fn moved(self) -> Reader<'a>
+        ensures { λ r. ⌜ r ≡ movedOn (self .entry) ⌝ }
+    {
+        Reader {
+            text: self.text,
+            at: past_at(self.text, self.at),
+        }
+    }
+}
+
+// What a reader answers past the first line, which opens.
+pub fn after_first(text: &[u8]) -> Next
+    ensures { λ r. ⌜ r ≡ nextAt (now (text .entry)) (placeAfter (now (text .entry)) 1) ⌝ }
+{
+    Reader::new(text).moved().next()
 }
