@@ -1,5 +1,5 @@
 -- Document 01, "Lines": a reader that goes from answer to answer visits each line of the text once, in order, and ends.
-use Prim.Native.Nat.{ℕ, zero, suc, _+_, _-_, _≤_, _<_}
+use Prim.Native.Nat.{ℕ, zero, suc, _≤_, _<_}
 use mathlib.Core.Path.{_≡_, refl, sym, ap, _∙_}
 use mathlib.Core.Bool.{Bool, true, false, cond}
 use mathlib.Core.List.{List, [], _∷_}
@@ -11,7 +11,6 @@ use lib.ListN.{length, getD, drop, length-drop}
 use lib.Seq.{drop-drop, getD-drop, ext-getD}
 use borrow.Author.Tests.{lt-ltb, ltb-true, ltb-false}
 use Rattle.model.specs.declared.Next.the-variants.{Line, Ended}
-use Rattle.model.specs.Questions.{upTo}
 use Rattle.model.specs.Lines.{newline, readLine, onto, linesOf, lineAt, pastAt, nextAt}
 use Rattle.model.proofs.QuestionLaws.{length-up-to, up-to-at}
 use Rattle.lines.specs.Places.{movedTo, placeAfter, visited, EachLineOnce}

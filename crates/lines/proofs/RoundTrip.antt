@@ -10,15 +10,13 @@ use lib.Seq.{sets, sets-eq, take-at}
 use borrow.Author.Tests.{lt-ltb, le-ltb, eqb-true}
 use Rattle.model.specs.declared.Call.{Call}
 use Rattle.model.specs.declared.Call.the-variants.{MakeCopy, Receive, Delete, Ask}
-use Rattle.model.specs.declared.Read.{Read}
 use Rattle.model.specs.declared.Read.the-variants.{Said, Refused}
 use Rattle.model.specs.declared.Next.the-variants.{Line}
 use Rattle.model.specs.Refusals.{BadLine}
-use Rattle.model.specs.Answers.{Outcome}
-use Rattle.model.specs.Lines.{newline, digitsOf, byteAt, bytesOf, lineOf, writeCall, readBytes, readLine, nextAt}
+use Rattle.model.specs.Lines.{newline, digitsOf, byteAt, bytesOf, lineOf, writeCall, lineRefusal, readBytes, readLine, nextAt}
 use Rattle.lines.specs.Fields.{FieldsFit}
 use Rattle.lines.proofs.DigitLaws.{byte-of-digits, digits-of-byte-at, length-digits, width-of-digits}
-use Rattle.lines.proofs.CallLaws.{each-below, all-bytes, one-is-copy, later-by-last, line-by-bytes, bytes-of-said}
+use Rattle.lines.proofs.CallLaws.{each-below, all-bytes, line-by-bytes, bytes-of-said}
 use Rattle.lines.proofs.PlaceLaws.{line-there}
 
 -- the digits of four bytes read as those bytes
@@ -30,21 +28,15 @@ line-of-bytes code a b c h i j k =
 
 -- read (write c) ≡ c
 pub read-of-written : (call : Call) → FieldsFit call → readLine (digitsOf (bytesOf call)) ≡ Said call
-read-of-written (MakeCopy from to p) f =
-    line-of-bytes 1 from to p (omega arith) (f .0) (f .1) (f .2)
-    ∙ sym (one-is-copy 1 from to p (all-bytes 1 from to p (omega arith) (f .0) (f .1) (f .2)) refl)
+unfolding lineRefusal
+read-of-written (MakeCopy from to p) f = line-of-bytes 1 from to p (omega arith) (f .0) (f .1) (f .2) ∙ simp (all-bytes 1 from to p (omega arith) (f .0) (f .1) (f .2))
 read-of-written (Receive slot) f =
     let high : slot / 256 < 256 = omega arith in
     let low : slot % 256 < 256 = omega arith in
     let whole : slot / 256 * 256 + slot % 256 ≡ slot = omega arith in
-    line-of-bytes 2 (slot / 256) (slot % 256) 0 (omega arith) high low (omega arith)
-    ∙ sym (later-by-last 2 (slot / 256) (slot % 256) 0 (all-bytes 2 (slot / 256) (slot % 256) 0 (omega arith) high low (omega arith)) (Receive slot) (omega arith) (omega arith) (ap Receive (sym whole)))
-read-of-written (Delete site p) f =
-    line-of-bytes 3 site p 0 (omega arith) (f .0) (f .1) (omega arith)
-    ∙ sym (later-by-last 3 site p 0 (all-bytes 3 site p 0 (omega arith) (f .0) (f .1) (omega arith)) (Delete site p) (omega arith) (omega arith) refl)
-read-of-written (Ask site p) f =
-    line-of-bytes 4 site p 0 (omega arith) (f .0) (f .1) (omega arith)
-    ∙ sym (later-by-last 4 site p 0 (all-bytes 4 site p 0 (omega arith) (f .0) (f .1) (omega arith)) (Ask site p) (omega arith) (omega arith) refl)
+    line-of-bytes 2 (slot / 256) (slot % 256) 0 (omega arith) high low (omega arith) ∙ simp (all-bytes 2 (slot / 256) (slot % 256) 0 (omega arith) high low (omega arith), whole)
+read-of-written (Delete site p) f = line-of-bytes 3 site p 0 (omega arith) (f .0) (f .1) (omega arith) ∙ simp (all-bytes 3 site p 0 (omega arith) (f .0) (f .1) (omega arith))
+read-of-written (Ask site p) f = line-of-bytes 4 site p 0 (omega arith) (f .0) (f .1) (omega arith) ∙ simp (all-bytes 4 site p 0 (omega arith) (f .0) (f .1) (omega arith))
 
 -- ---- a line that is read
 -- it has eight characters, and its bytes say the call

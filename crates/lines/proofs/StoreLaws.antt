@@ -1,6 +1,6 @@
 -- Stores one after another, and bytes written as digits one after another.
 use Prim.Native.Nat.{ℕ, suc, _+_, _*_, _/_, _%_, _≤_, _<_}
-use mathlib.Core.Path.{_≡_, refl, sym, ap, _∙_}
+use mathlib.Core.Path.{_≡_, ap, _∙_}
 use mathlib.Core.List.{List, [], _∷_, _++_}
 use native.Mathlib.Omega.{arith}
 use native.Mathlib.Numerals.{add-one}
@@ -12,7 +12,7 @@ use Rattle.model.specs.declared.Answer.{Answer}
 use Rattle.model.specs.declared.Call.{Call}
 use Rattle.model.specs.Refusals.{BadShape}
 use Rattle.model.specs.Messages.{slotOf}
-use Rattle.model.specs.Answers.{Outcome, refused}
+use Rattle.model.specs.Answers.{refused}
 use Rattle.model.specs.Lines.{newline, digitsOf, lineOf, writeCall}
 use Rattle.model.specs.Transcript.{answerBytes}
 use Rattle.lines.proofs.DigitLaws.{length-digits}

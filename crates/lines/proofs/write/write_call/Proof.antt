@@ -1,4 +1,5 @@
 -- `write_call` meets its promise: a text that is too short, and one that is not.
+use native.Mathlib.Omega.{arith}
 use borrow.Author.Needs.{needs}
 use Rattle.model.specs.Lines.{lineOf}
 use Rattle.lines.proofs.StoreLaws.{too-short, long-enough}
@@ -9,7 +10,9 @@ numbered-requires : tie.Need-numbered-requires
 numbered-requires c κs = search needs
 
 returns : tie.Need-returns
-returns c = too-short _ _ (c .before .if1 .taken) (c .numbered .ensures)
+returns c =
+    let a = c .before .before .before .args in
+    too-short (a .text .now) (a .call) (omega arith) (c .numbered .ensures)
 
 bytes-of-requires : tie.Need-bytes-of-requires
 bytes-of-requires c κs = search needs
@@ -29,7 +32,8 @@ same-length c = search needs
 returns-2 : tie.Need-returns-2
 unfolding lineOf
 returns-2 c =
-    long-enough _ _ _ (c .before .before .before .before .before .before .before .if1 .left) (c .numbered2 .ensures)
+    let a = c .before .before .before .before .before .before .before .before .before .args in
+    long-enough (a .text .now) (a .call) _ (omega arith) (c .numbered2 .ensures)
     (rw (c .before .before .before .before .before .before .bytes-of .ensures) at (c .before .before .before .write-line .ensures))
 
 pub write-call-spec : {M : Type 1} → statement M
