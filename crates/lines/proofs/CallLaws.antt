@@ -1,4 +1,4 @@
--- Four bytes as a call: what each code gives, and the bytes of a call that was said.
+-- Four bytes as a call: the tests in their order, and the bytes of a call that was said.
 use Prim.Native.Nat.{ℕ, zero, suc, _+_, _*_, _/_, _%_, _≤_, _<_}
 use mathlib.Core.Path.{_≡_, refl, sym, ap, _∙_}
 use mathlib.Core.Bool.{Bool, true, false, _&&_, _||_, not}
@@ -13,7 +13,7 @@ use Rattle.model.specs.declared.Read.the-variants.{Said, Refused}
 use Rattle.model.specs.Refusals.{BadLine, UnknownCode, PrivateCode, _when_, _orElse_}
 use Rattle.model.specs.Lines.{byteAt, bytesOf, callOf, lineRefusal, saidUnless, readBytes, readLine}
 
--- a code that is unknown; a last byte that is not 00 where it should be
+-- an unknown code; a last byte that is not 00 where it should be
 abbrev pub unknown : ℕ → Bool
 unknown code = eqb code 0 || leb 5 code && leb code 127
 
@@ -78,7 +78,7 @@ not-middle n h e = go (leb 5 n) refl e
     go true l e = let r = leb-false n 127 e in absurd (omega arith)
     go false l e = let r = leb-false 5 n l in omega arith
 
--- an unrefused code is 01 to 04, and after 02 to 04 the last byte is 00
+-- the call of a code from 01 to 04 has the bytes that it is made of, where the last byte is 00 after 02 to 04
 bytes-by-code : (code a b c : ℕ) → 1 ≤ code → code ≤ 4 → b < 256 → unended code c ≡ false
     → bytesOf (callOf code a b c) ≡ code ∷ a ∷ b ∷ c ∷ []
 bytes-by-code zero a b c low high h z = absurd (omega arith)

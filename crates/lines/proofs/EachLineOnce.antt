@@ -9,19 +9,14 @@ use native.Mathlib.Numerals.{add-one}
 use lib.Dec.{eqb, ltb}
 use lib.ListN.{length, getD, drop, length-drop}
 use lib.Seq.{drop-drop, getD-drop, ext-getD}
-use borrow.Author.Tests.{lt-ltb, ltb-true, ltb-false}
-use Rattle.model.specs.declared.Next.the-variants.{Line, Ended}
-use Rattle.model.specs.Lines.{newline, readLine, onto, linesOf, lineAt, pastAt, nextAt}
+use borrow.Author.Tests.{ltb-true, ltb-false}
+use Rattle.model.specs.declared.Next.the-variants.{Ended}
+use Rattle.model.specs.Lines.{newline, onto, linesOf, lineAt, pastAt, nextAt}
 use Rattle.model.proofs.QuestionLaws.{length-up-to, up-to-at}
 use Rattle.lines.specs.Places.{movedTo, placeAfter, visited, EachLineOnce}
-use Rattle.lines.proofs.PlaceLaws.{past-later, no-lines, lines-at, none-there}
+use Rattle.lines.proofs.PlaceLaws.{past-later, no-lines, lines-at, answer-there, none-there}
 
 -- ---- what is left after k answers
--- the answer at a place, where a line starts there
-pub answer-there : (text : List ℕ) (at : ℕ) → at < length text → nextAt text at ≡ Line (readLine (lineAt text at)) (pastAt text at)
-unfolding nextAt
-answer-there text at h = simp (lt-ltb at (length text) h)
-
 drop-next : (lines rest : List (List ℕ)) (k : ℕ) → rest ≡ drop k lines → drop 1 rest ≡ drop (suc k) lines
 drop-next lines rest k e = ap (drop 1) e ∙ drop-drop 1 k lines ∙ ap (λ (n : ℕ). drop n lines) (add-one k)
 
@@ -65,7 +60,7 @@ module _ (text : List ℕ) (at : ℕ) (lines : List (List ℕ)) (k : ℕ) (e : l
       ap (λ (ls : List (List ℕ)). getD ls 0 []) (sym (lines-at text at h) ∙ e)
       ∙ getD-drop k lines 0 [] ∙ ap (λ (n : ℕ). getD lines n []) (add-zero k)
 
--- ---- a line has a character
+-- ---- each line has a character of its own
 onto-length : (c : ℕ) (lines : List (List ℕ)) → length (onto c lines) ≤ suc (length lines)
 onto-length c [] = omega arith
 onto-length c (line ∷ lines) = omega arith

@@ -102,6 +102,11 @@ line-there text at end past read h e p q =
     let w : end - at ≡ width (drop at text) = omega arith in
     simp (p, q, w, lt-ltb at (length text) h) (rw e)
 
+-- ---- what it answers at a place, where a line starts there and where none does
+pub answer-there : (text : List ℕ) (at : ℕ) → at < length text → nextAt text at ≡ Line (readLine (lineAt text at)) (pastAt text at)
+unfolding nextAt
+answer-there text at h = simp (lt-ltb at (length text) h)
+
 pub none-there : (text : List ℕ) (at : ℕ) → length text ≤ at → nextAt text at ≡ Ended
 unfolding nextAt
 none-there text at h = simp (le-ltb at (length text) h)

@@ -61,6 +61,11 @@ written-of-read line call e =
     (digits-of-byte-at line (byteAt line 3 ∷ []) 2 (omega arith) (below .2)
     (digits-of-byte-at line [] 3 (omega arith) (below .3) (sym (drop-of-length-le line end)))))
 
+-- the writer puts that line back, and its newline
+pub line-written-back : (text line : List ℕ) (call : Call) → readLine line ≡ Said call → 9 ≤ length text → writeCall text call .desk ≡ sets text 0 (line ++ (newline ∷ []))
+unfolding writeCall lineOf
+line-written-back text line call e h = simp (le-ltb (length text) 9 h, written-of-read line call e)
+
 -- ---- a text that starts with a written line
 next-of-digits : (bs rest : List ℕ) → nextAt (digitsOf bs ++ (newline ∷ rest)) 0 ≡ Line (readLine (digitsOf bs)) (length bs * 2 + 1)
 next-of-digits bs rest =

@@ -1,20 +1,21 @@
--- Stores one after another, and bytes written as digits one after another.
+-- Stores one after another: bytes written as digits, an answer line, and the outcomes of a written call.
 use Prim.Native.Nat.{ℕ, suc, _+_, _*_, _/_, _%_, _≤_, _<_}
-use mathlib.Core.Path.{_≡_, ap, _∙_}
+use mathlib.Core.Path.{_≡_, refl, ap, _∙_}
 use mathlib.Core.List.{List, [], _∷_, _++_}
 use native.Mathlib.Omega.{arith}
 use native.Mathlib.Numerals.{add-one}
-use lib.ListN.{length, getD, drop, set, drop-of-length-le}
+use lib.ListN.{length, getD, drop, set, length-append, drop-of-length-le}
 use lib.Seq.{sets, drop-cons}
 use borrow.Author.Tests.{lt-ltb, le-ltb}
 use Rattle.model.specs.declared.Posted.{Posted}
+use Rattle.model.specs.declared.Posted.the-variants.{Copy, Dec, IncDec, Nothing}
 use Rattle.model.specs.declared.Answer.{Answer}
 use Rattle.model.specs.declared.Call.{Call}
 use Rattle.model.specs.Refusals.{BadShape}
 use Rattle.model.specs.Messages.{slotOf}
 use Rattle.model.specs.Answers.{refused}
 use Rattle.model.specs.Lines.{newline, digitsOf, lineOf, writeCall}
-use Rattle.model.specs.Transcript.{answerBytes}
+use Rattle.model.specs.Transcript.{answerBytes, answerLine}
 use Rattle.lines.proofs.DigitLaws.{length-digits}
 
 -- a store after a store is one store
@@ -50,6 +51,18 @@ newline-after text later bytes at e =
 -- the bytes of an answer, by its posted message
 pub bytes-by-posted : (a : Answer) (m : Posted) → a .posted ≡ m → a .number ∷ a .value / 256 ∷ a .value % 256 ∷ slotOf m ≡ answerBytes a
 bytes-by-posted a m e = rw e
+
+-- an answer line has 17 characters
+length-slot : (m : Posted) → length (slotOf m) ≡ 5
+length-slot (Copy from to p) = refl
+length-slot (Dec from to p) = refl
+length-slot (IncDec from to third p) = refl
+length-slot Nothing = refl
+
+pub length-answer-line : (a : Answer) → length (answerLine a) ≡ 17
+unfolding answerLine
+length-answer-line a =
+    length-append (digitsOf (answerBytes a)) (newline ∷ []) ∙ omega (arith, length-digits (answerBytes a), length-slot (a .posted))
 
 -- ---- the two outcomes of a written call
 module _ (text : List ℕ) (call : Call) {r : Answer} where

@@ -71,9 +71,9 @@ fn call_of(code: u8, a: u8, b: u8, c: u8) -> Call
 fn read_bytes(code: u8, a: u8, b: u8, c: u8) -> Read
     ensures { λ r. ⌜ r ≡ readBytes code a b c ⌝ }
 {
-    let known = code_refusal(code);
-    let ended = last_refusal(code, c);
-    let number = or_else(known, ended);
+    let by_code = code_refusal(code);
+    let by_last = last_refusal(code, c);
+    let number = or_else(by_code, by_last);
     if number != 0 {
         return Read::Refused(number);
     }

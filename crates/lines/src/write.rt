@@ -84,7 +84,7 @@ fn bytes_of(call: Call) -> [u8; 4]
     }
 }
 
-// An answer of a number alone.
+// The writer's answer: a number, value 0 and no message.
 fn numbered(number: u8) -> Answer
     ensures { λ r. ⌜ r ≡ refused number ⌝ }
 {
