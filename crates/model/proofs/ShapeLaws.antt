@@ -1,0 +1,125 @@
+-- What lent tables say that pass 1 and 2, and what an opening writes.
+use Prim.Native.Nat.{ℕ, zero, suc, _+_, _*_, _/_, _%_, _≤_, _<_}
+use mathlib.Core.Path.{_≡_, refl, sym, ap, _∙_}
+use mathlib.Core.Bool.{Bool, true, false, _&&_, not, cond}
+use mathlib.Core.List.{List, [], _∷_, _++_, map}
+use mathlib.Core.Logic.{⊎-elim}
+use native.Mathlib.Nat.{suc-mul, not-suc-le-zero, eq-or-lt-of-le, le-of-suc-le-suc}
+use native.Mathlib.Omega.{arith}
+use lib.Dec.{leb, ltb, eqb}
+use lib.ListN.{length, getD, replicate, length-append, length-map, List·getD-append}
+use lib.Seq.{getD-append-add}
+use borrow.Author.Tests.{leb-true, eqb-true, not-false, lt-ltb}
+use Rattle.model.specs.Refusals.{_when_, _orElse_}
+use Rattle.model.specs.Questions.{every}
+use Rattle.model.specs.Calls.{lentRefusal}
+use Rattle.model.specs.Tables.{Desk, sizesGood, shapeGood, allBelow, allSlotsGood, byteBelow, ownRow, ownRows}
+use Rattle.model.specs.Flat.{flat, place}
+use Rattle.model.proofs.TestLaws.{and-both, when-not, or-else-none}
+use Rattle.model.proofs.QuestionLaws.{every-all}
+use Rattle.model.proofs.PlaceLaws.{place-inside}
+
+-- ---- sizes and lengths
+pub record Sized (s g : ℕ) : Type 0 where
+  pub some-site : 1 ≤ s
+  pub few-sites : s ≤ 64
+  pub few-pointers : g ≤ 256
+
+pub sized : (s g : ℕ) → sizesGood s g ≡ true → Sized s g
+sized s g e =
+    let e1 = and-both (leb 1 s && leb s 64) (leb g 256) e in
+    let e2 = and-both (leb 1 s) (leb s 64) (e1 .0) in
+    record { some-site = leb-true 1 s (e2 .0); few-sites = leb-true s 64 (e2 .1); few-pointers = leb-true g 256 (e1 .1) }
+
+pub record Shaped (s g sends receives pools : ℕ) : Type 0 where
+  pub sizes : Sized s g
+  pub send-length : sends ≡ s * g
+  pub receive-length : receives ≡ s * g
+  pub whole-slots : pools % 5 ≡ 0
+  pub few-slots : pools / 5 ≤ 1024
+
+pub shaped : (s g sends receives pools : ℕ) → shapeGood s g sends receives pools ≡ true → Shaped s g sends receives pools
+shaped s g sends receives pools e =
+    let e1 = and-both (sizesGood s g) (eqb sends (s * g) && eqb receives (s * g) && eqb (pools % 5) 0 && leb (pools / 5) 1024) e in
+    let e2 = and-both (eqb sends (s * g) && eqb receives (s * g) && eqb (pools % 5) 0) (leb (pools / 5) 1024) (e1 .1) in
+    let e3 = and-both (eqb sends (s * g) && eqb receives (s * g)) (eqb (pools % 5) 0) (e2 .0) in
+    let e4 = and-both (eqb sends (s * g)) (eqb receives (s * g)) (e3 .0) in
+    record {
+      sizes = sized s g (e1 .0);
+      send-length = eqb-true sends (s * g) (e4 .0);
+      receive-length = eqb-true receives (s * g) (e4 .1);
+      whole-slots = eqb-true (pools % 5) 0 (e3 .1);
+      few-slots = leb-true (pools / 5) 1024 (e2 .1);
+    }
+
+-- ---- lent tables that pass 1 and 2
+pub record Good (d : Desk) : Type 0 where
+  pub shape-good : flat .shaped d ≡ true
+  pub owners-below : allBelow (d .S) (d .owners) ≡ true
+  pub cells-below : allBelow 2 (d .receive) ≡ true
+  pub slots-good : allSlotsGood (d .S) (length (d .owners)) (d .pool) ≡ true
+
+pub good : (d : Desk) → lentRefusal flat d ≡ 0 → Good d
+unfolding lentRefusal
+good d e =
+    let q = or-else-none (1 when not (flat .shaped d)) (2 when not (flat .sound d)) e in
+    let t = and-both (allBelow (d .S) (d .owners) && allBelow 2 (d .receive)) (allSlotsGood (d .S) (length (d .owners)) (d .pool)) (not-false _ (when-not 1 _ (q .1))) in
+    let u = and-both (allBelow (d .S) (d .owners)) (allBelow 2 (d .receive)) (t .0) in
+    record { shape-good = not-false _ (when-not 0 _ (q .0)); owners-below = u .0; cells-below = u .1; slots-good = t .1 }
+
+pub passes : (d : Desk) → Good d → lentRefusal flat d ≡ 0
+unfolding lentRefusal
+passes d g = rw (g .shape-good, g .owners-below, g .cells-below, g .slots-good)
+
+pub shaped-desk : (d : Desk) → lentRefusal flat d ≡ 0 → Shaped (d .S) (length (d .owners)) (length (d .send)) (length (d .receive)) (length (d .pool))
+shaped-desk d e = shaped (d .S) (length (d .owners)) (length (d .send)) (length (d .receive)) (length (d .pool)) (good d e .shape-good)
+
+-- ---- the rows that an opening writes
+pub length-own-rows : (s : ℕ) (owners : List ℕ) → length (ownRows s owners) ≡ s * length owners
+unfolding ownRows
+length-own-rows zero owners = omega arith
+length-own-rows (suc s) owners =
+    length-append (ownRows s owners) (ownRow s owners)
+    ∙ omega (arith, length-own-rows s owners, length-map owners (λ owner. 1 when eqb s owner), suc-mul s (length owners))
+
+own-row-at : (s : ℕ) (owners : List ℕ) (p : ℕ) → p < length owners → getD (ownRow s owners) p 0 ≡ (1 when eqb s (getD owners p 0))
+own-row-at s [] p l = absurd (not-suc-le-zero l)
+own-row-at s (o ∷ os) zero l = refl
+own-row-at s (o ∷ os) (suc p) l = own-row-at s os p (le-of-suc-le-suc l)
+
+-- every receive cell is 1 at the owner and 0 elsewhere
+pub own-rows-at : (sites : ℕ) (owners : List ℕ) (s p : ℕ) → s < sites → p < length owners
+    → getD (ownRows sites owners) (place (length owners) s p) 0 ≡ (1 when eqb s (getD owners p 0))
+unfolding ownRows
+own-rows-at zero owners s p ls lp = absurd (not-suc-le-zero ls)
+own-rows-at (suc n) owners s p ls lp =
+    ⊎-elim
+    (λ q. rw q (rw (← length-own-rows n owners) (getD-append-add (ownRows n owners) (ownRow n owners) p 0) ∙ own-row-at n owners p lp))
+    (λ lt.
+    List·getD-append (ownRows n owners) (ownRow n owners) 0 (place (length owners) s p) (rw (length-own-rows n owners) (place-inside n (length owners) s p lt lp))
+    ∙ own-rows-at n owners s p lt lp)
+    (eq-or-lt-of-le (le-of-suc-le-suc ls))
+
+-- every byte of the rows is 0 or 1
+at-most-1 : (b : Bool) → (1 when b) ≤ 1
+at-most-1 true = omega arith
+at-most-1 false = omega arith
+
+bits-of-both : (a b : List ℕ) → ((i : ℕ) → getD a i 0 ≤ 1) → ((i : ℕ) → getD b i 0 ≤ 1) → (i : ℕ) → getD (a ++ b) i 0 ≤ 1
+bits-of-both [] b ha hb i = hb i
+bits-of-both (x ∷ a) b ha hb zero = ha 0
+bits-of-both (x ∷ a) b ha hb (suc i) = bits-of-both a b (λ j. ha (suc j)) hb i
+
+own-row-bits : (s : ℕ) (owners : List ℕ) (i : ℕ) → getD (ownRow s owners) i 0 ≤ 1
+own-row-bits s [] i = omega arith
+own-row-bits s (o ∷ os) zero = at-most-1 (eqb s o)
+own-row-bits s (o ∷ os) (suc i) = own-row-bits s os i
+
+own-rows-bits : (s : ℕ) (owners : List ℕ) (i : ℕ) → getD (ownRows s owners) i 0 ≤ 1
+unfolding ownRows
+own-rows-bits zero owners i = omega arith
+own-rows-bits (suc s) owners i = bits-of-both (ownRows s owners) (ownRow s owners) (own-rows-bits s owners) (own-row-bits s owners) i
+
+pub own-rows-below : (s : ℕ) (owners : List ℕ) → allBelow 2 (ownRows s owners) ≡ true
+unfolding allBelow
+own-rows-below s owners = every-all (byteBelow 2 (ownRows s owners)) (length (ownRows s owners)) (λ i l. lt-ltb (getD (ownRows s owners) i 0) 2 (omega (arith, own-rows-bits s owners i)))
