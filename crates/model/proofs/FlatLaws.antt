@@ -59,12 +59,11 @@ module _ (d : Desk) where
   unfolding messageOf
   clears e o =
       let h = shaped (d .S) (length (d .owners)) (length (d .send)) (length (d .receive)) (length (d .pool)) e in
-      let counters = length-replicate {A = ℕ} (length (d .send)) 0 in
       let cells = length-own-rows (d .S) (d .owners) ∙ sym (h .receive-length) in
       let slots = length-replicate {A = ℕ} (length (d .pool)) 0 in
       record {
         good = passes (flat .cleared d) (record {
-          shape-good = rw (counters, cells, slots) e;
+          shape-good = simp (length-replicate, cells) e;
           owners-below = o;
           cells-below = own-rows-below (d .S) (d .owners);
           slots-good = empty-slots-good (d .S) (length (d .owners)) (length (d .pool));

@@ -13,7 +13,7 @@ use borrow.Author.Tests.{leb-true, eqb-true, not-false, lt-ltb}
 use Rattle.model.specs.Refusals.{_when_, _orElse_}
 use Rattle.model.specs.Questions.{every}
 use Rattle.model.specs.Calls.{lentRefusal}
-use Rattle.model.specs.Tables.{Desk, sizesGood, shapeGood, allBelow, allSlotsGood, byteBelow, ownRow, ownRows}
+use Rattle.model.specs.Tables.{Desk, sizesGood, lengthsGood, shapeGood, allBelow, allSlotsGood, byteBelow, ownRow, ownRows}
 use Rattle.model.specs.Flat.{flat, place}
 use Rattle.model.proofs.TestLaws.{and-both, when-not, or-else-none}
 use Rattle.model.proofs.QuestionLaws.{every-all}
@@ -27,9 +27,9 @@ pub record Sized (s g : ℕ) : Type 0 where
 
 pub sized : (s g : ℕ) → sizesGood s g ≡ true → Sized s g
 sized s g e =
-    let e1 = and-both (leb 1 s && leb s 64) (leb g 256) e in
-    let e2 = and-both (leb 1 s) (leb s 64) (e1 .0) in
-    record { some-site = leb-true 1 s (e2 .0); few-sites = leb-true s 64 (e2 .1); few-pointers = leb-true g 256 (e1 .1) }
+    let e1 = and-both _ _ e in
+    let e2 = and-both _ _ (e1 .0) in
+    record { some-site = leb-true _ _ (e2 .0); few-sites = leb-true _ _ (e2 .1); few-pointers = leb-true _ _ (e1 .1) }
 
 pub record Shaped (s g sends receives pools : ℕ) : Type 0 where
   pub sizes : Sized s g
@@ -40,16 +40,16 @@ pub record Shaped (s g sends receives pools : ℕ) : Type 0 where
 
 pub shaped : (s g sends receives pools : ℕ) → shapeGood s g sends receives pools ≡ true → Shaped s g sends receives pools
 shaped s g sends receives pools e =
-    let e1 = and-both (sizesGood s g) (eqb sends (s * g) && eqb receives (s * g) && eqb (pools % 5) 0 && leb (pools / 5) 1024) e in
-    let e2 = and-both (eqb sends (s * g) && eqb receives (s * g) && eqb (pools % 5) 0) (leb (pools / 5) 1024) (e1 .1) in
-    let e3 = and-both (eqb sends (s * g) && eqb receives (s * g)) (eqb (pools % 5) 0) (e2 .0) in
-    let e4 = and-both (eqb sends (s * g)) (eqb receives (s * g)) (e3 .0) in
+    let e1 = and-both (sizesGood s g) (lengthsGood s g sends receives pools) e in
+    let e2 = and-both _ _ (e1 .1) in
+    let e3 = and-both _ _ (e2 .0) in
+    let e4 = and-both _ _ (e3 .0) in
     record {
       sizes = sized s g (e1 .0);
-      send-length = eqb-true sends (s * g) (e4 .0);
-      receive-length = eqb-true receives (s * g) (e4 .1);
-      whole-slots = eqb-true (pools % 5) 0 (e3 .1);
-      few-slots = leb-true (pools / 5) 1024 (e2 .1);
+      send-length = eqb-true _ _ (e4 .0);
+      receive-length = eqb-true _ _ (e4 .1);
+      whole-slots = eqb-true _ _ (e3 .1);
+      few-slots = leb-true _ _ (e2 .1);
     }
 
 -- ---- lent tables that pass 1 and 2
@@ -63,8 +63,8 @@ pub good : (d : Desk) → lentRefusal flat d ≡ 0 → Good d
 unfolding lentRefusal
 good d e =
     let q = or-else-none (1 when not (flat .shaped d)) (2 when not (flat .sound d)) e in
-    let t = and-both (allBelow (d .S) (d .owners) && allBelow 2 (d .receive)) (allSlotsGood (d .S) (length (d .owners)) (d .pool)) (not-false _ (when-not 1 _ (q .1))) in
-    let u = and-both (allBelow (d .S) (d .owners)) (allBelow 2 (d .receive)) (t .0) in
+    let t = and-both _ _ (not-false _ (when-not 1 _ (q .1))) in
+    let u = and-both _ _ (t .0) in
     record { shape-good = not-false _ (when-not 0 _ (q .0)); owners-below = u .0; cells-below = u .1; slots-good = t .1 }
 
 pub passes : (d : Desk) → Good d → lentRefusal flat d ≡ 0
@@ -80,7 +80,7 @@ unfolding ownRows
 length-own-rows zero owners = omega arith
 length-own-rows (suc s) owners =
     length-append (ownRows s owners) (ownRow s owners)
-    ∙ omega (arith, length-own-rows s owners, length-map owners (λ owner. 1 when eqb s owner), suc-mul s (length owners))
+    ∙ simp length-map (omega (arith, length-own-rows s owners, suc-mul s (length owners)))
 
 own-row-at : (s : ℕ) (owners : List ℕ) (p : ℕ) → p < length owners → getD (ownRow s owners) p 0 ≡ (1 when eqb s (getD owners p 0))
 own-row-at s [] p l = absurd (not-suc-le-zero l)
