@@ -1,0 +1,10 @@
+-- What the proofs of the functions cite.
+pub mod ByteLaws
+pub mod KindLaws
+pub mod BitLaws
+pub mod FieldLaws
+pub mod WordLaws
+pub mod DeskLaws
+pub mod FillLaws
+pub mod RowLaws
+pub mod OpeningLaws
