@@ -1,6 +1,6 @@
 -- What a call knows once 1, 2 and 3 are not given.
 use Prim.Native.Nat.{ℕ, _≤_, _<_}
-use mathlib.Core.Path.{_≡_}
+use mathlib.Core.Path.{_≡_, sym, _∙_}
 use mathlib.Core.Bool.{Bool, true, _&&_, not}
 use lib.Dec.{ltb}
 use lib.ListN.{length}
@@ -41,9 +41,9 @@ ready d s p e ls lp =
       in-receive = rw (h .receive-length) at;
     }
 
--- the names of a call with a site and a pointer; sites: the test of all its sites, of which s is one
-pub ready-names : (d : Desk) (s p : ℕ) (sites : Bool) → (sites ≡ true → s < d .S) → front flat d (sites && ltb p (length (d .owners))) ≡ 0 → Ready d s p
-ready-names d s p sites site e =
-    let q = front-passed flat d (sites && ltb p (length (d .owners))) e in
+-- so do the names of a call for which 1, 2 and 3 are not given; sites: the test of all its sites, of which s is one
+pub ready-names : (d : Desk) (s p : ℕ) (sites : Bool) {n : ℕ} → (sites ≡ true → s < d .S) → n ≡ front flat d (sites && ltb p (length (d .owners))) → n ≡ 0 → Ready d s p
+ready-names d s p sites site e z =
+    let q = front-passed flat d (sites && ltb p (length (d .owners))) (sym e ∙ z) in
     let n = and-both sites (ltb p (length (d .owners))) (q .1) in
     ready d s p (q .0) (site (n .0)) (ltb-true p (length (d .owners)) (n .1))

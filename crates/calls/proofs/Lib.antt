@@ -3,3 +3,4 @@ pub mod OrderLaws
 pub mod FrontLaws
 pub mod EffectLaws
 pub mod ReceiveLaws
+pub mod NoTwoOutcomes

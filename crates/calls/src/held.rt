@@ -1,5 +1,6 @@
 // Held: 9 (Document 01, Why a call is turned down).
 use crate::message::is_inc_dec;
+use crate::refusal::when;
 use model::Posted;
 use tables::pool::read_slot;
 ghost use mathlib.Core.Path.{_≡_};
@@ -29,12 +30,7 @@ pub fn held_refusal(pool: &[u8], m: Posted) -> u8
 {
     match m {
         Posted::Copy { .. } => 0,
-        Posted::Dec { from, to, pointer } => {
-            if held(pool, from, to, pointer) {
-                return 9;
-            }
-            0
-        }
+        Posted::Dec { from, to, pointer } => when(9, held(pool, from, to, pointer)),
         Posted::IncDec { .. } => 0,
         Posted::Nothing => 0,
     }

@@ -1,4 +1,5 @@
 // What a message does where it is received: scalars and the message alone, no table (Document 01, The calls).
+use crate::refusal::when;
 use model::Posted;
 ghost use mathlib.Core.Path.{_≡_};
 ghost use Rattle.model.specs.Messages.{receiver as receiverOf, pointerOf, receiveRefusal, counterAfter, cellAfter, reply as replyOf, isIncDec};
@@ -32,24 +33,9 @@ pub fn receive_refusal(m: Posted, counter: u16) -> u8
     ensures { λ r. ⌜ r ≡ receiveRefusal m counter ⌝ }
 {
     match m {
-        Posted::Copy { from, to, .. } => {
-            if from == to {
-                return 4;
-            }
-            0
-        }
-        Posted::Dec { .. } => {
-            if counter == 0 {
-                return 10;
-            }
-            0
-        }
-        Posted::IncDec { .. } => {
-            if counter == 65535 {
-                return 6;
-            }
-            0
-        }
+        Posted::Copy { from, to, .. } => when(4, from == to),
+        Posted::Dec { .. } => when(10, counter == 0),
+        Posted::IncDec { .. } => when(6, counter == 65535),
         Posted::Nothing => 0,
     }
 }

@@ -1,5 +1,5 @@
 // Receive (Document 01, The calls).
-use crate::front::front;
+use crate::front::slot_refusal;
 use crate::held::held_refusal;
 use crate::message::cell_after;
 use crate::message::counter_after;
@@ -15,28 +15,9 @@ use tables::answer::refused;
 use tables::pool::read_slot;
 use tables::pool::write_slot;
 ghost use mathlib.Core.Path.{_≡_};
-ghost use lib.Dec.{ltb};
-ghost use Rattle.model.specs.Refusals.{EmptySlot, _when_, _orElse_};
-ghost use Rattle.model.specs.Tables.{lent, slotsOf, emptyAt};
-ghost use Rattle.model.specs.Calls.{front as frontOf, receive as receiveOf};
+ghost use Rattle.model.specs.Tables.{lent};
+ghost use Rattle.model.specs.Calls.{receive as receiveOf};
 ghost use Rattle.model.specs.Flat.{flat};
-
-// 1, 2, 3, 8: whether there is a message to receive.
-fn slot_refusal(s: u8, owners: &[u8], send: &[u16], receive: &[u8], pool: &[u8], slot: u16) -> u8
-    ensures { λ r. ⌜ r ≡ frontOf flat (lent s (now (owners .entry)) (now (send .entry)) (now (receive .entry)) (now (pool .entry))) (ltb slot (slotsOf (now (pool .entry))))
-        orElse EmptySlot when emptyAt (now (pool .entry)) slot ⌝ }
-{
-    let i = slot as usize;
-    let named = i < pool.len() / 5;
-    let n = front(s, owners, send, receive, pool, named);
-    if n != 0 {
-        return n;
-    }
-    if pool[i * 5] == 0 {
-        return 8;
-    }
-    0
-}
 
 // The receiver's counter and cell change as the message says; the reply takes the slot, or it becomes empty; the value is the slot.
 pub fn receive(

@@ -1,15 +1,14 @@
 -- Ask meets its promise: 1, 2, 3, then 13; the owner's counter alone decides.
-use borrow.Author.Needs.{needs}
 use Prim.Native.Nat.{_<_}
 use mathlib.Core.Path.{_≡_, refl, sym, _∙_}
-use mathlib.Core.Bool.{_&&_}
 use native.Mathlib.Omega.{arith}
 use lib.Dec.{ltb}
-use lib.ListN.{length}
+use lib.ListN.{length, getD}
+use borrow.Author.Needs.{needs}
 use borrow.Author.Tests.{ltb-true, eq-eqb, ne-eqb, eqb-false}
-use Rattle.model.specs.Calls.{front, askNumber, ask}
+use Rattle.model.specs.Calls.{askNumber, ask}
 use Rattle.model.specs.Tables.{Desk, lent}
-use Rattle.model.specs.Flat.{flat}
+use Rattle.model.specs.Flat.{place}
 use Rattle.model.proofs.TestLaws.{refused-by-front, refused-by-own, accepted-by-both}
 use Rattle.calls.proofs.FrontLaws.{Ready, ready-names}
 use Rattle.calls.proofs.EffectLaws.{asked-as}
@@ -22,18 +21,18 @@ start c = c .before .before .before .before .before
 abbrev desk : tie.Start → Desk
 desk c = lent (c .args .s) (c .args .owners .now) (c .args .send .now) (c .args .receive .now) (c .args .pool .now)
 
--- 1, 2, 3 are not given
-passed : (c : tie.Else1) → let a = start (c .before) .args in front flat (desk (start (c .before))) (ltb (a .site) (a .s) && ltb (a .pointer) (length (a .owners .now))) ≡ 0
-passed c = sym (c .before .front .ensures) ∙ c .if1 .left
-
 known : (c : tie.Else1) → let a = start (c .before) .args in Ready (desk (start (c .before))) (a .site) (a .pointer)
 known c =
     let a = start (c .before) .args in
-    ready-names (desk (start (c .before))) (a .site) (a .pointer) (ltb (a .site) (a .s)) (ltb-true (a .site) (a .s)) (passed c)
+    ready-names (desk (start (c .before))) (a .site) (a .pointer) (ltb (a .site) (a .s)) (ltb-true (a .site) (a .s)) (c .before .front .ensures) (c .if1 .left)
 
--- the owner's place, which is the site's
+-- the place that is read is the owner's
+at-owner : (c : tie.After-place-of) → let a = start (c .before .before .before .before) .args in
+    c .place-of .result ≡ place (length (a .owners .now)) (getD (a .owners .now) (a .pointer) 0) (a .pointer)
+at-owner c = c .place-of .ensures
+
 in-send : (c : tie.After-place-of) → c .place-of .result < length (start (c .before .before .before .before) .args .send .now)
-in-send c = rw (c .place-of .ensures, ← c .before .if2 .left) (known (c .before .before .before) .in-send)
+in-send c = rw (at-owner c, ← c .before .if2 .left) (known (c .before .before .before) .in-send)
 
 front-requires : tie.Need-front-requires
 front-requires c κs = search needs
@@ -57,7 +56,7 @@ returns-2 : tie.Need-returns-2
 unfolding ask askNumber
 returns-2 c =
     let e = c .before .before .before in
-    refused-by-own (desk (start (e .before))) _ 13 _ _ (passed e) (eqb-false 13 0 refl) (rw (ne-eqb _ _ (c .before .if2 .taken))) (c .refused2 .ensures)
+    refused-by-own (desk (start (e .before))) _ 13 _ _ (sym (e .before .front .ensures) ∙ e .if1 .left) (eqb-false 13 0 refl) (rw (ne-eqb _ _ (c .before .if2 .taken))) (c .refused2 .ensures)
 
 place-of-requires : tie.Need-place-of-requires
 place-of-requires c κs = known (c .before .before) .few-pointers
@@ -79,8 +78,8 @@ unfolding ask askNumber
 returns-3 c =
     let o = c .before .before .before in
     let e = o .before .before in
-    asked-as (desk (start (e .before))) _ (c .before .before .place-of .ensures) (c .accepted .ensures)
-    ∙ accepted-by-both (desk (start (e .before))) _ _ _ (passed e) (rw (eq-eqb _ _ (o .if2 .left)))
+    asked-as (desk (start (e .before))) _ (at-owner (c .before .before)) (c .accepted .ensures)
+    ∙ accepted-by-both (desk (start (e .before))) _ _ _ (sym (e .before .front .ensures) ∙ e .if1 .left) (rw (eq-eqb _ _ (o .if2 .left)))
 
 pub ask-spec : {M : Type 1} → statement M
 ask-spec =

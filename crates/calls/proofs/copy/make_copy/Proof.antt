@@ -1,15 +1,15 @@
 -- Make copy meets its promise: 1, 2, 3, then 4 to 7, then the counter and the slot.
-use borrow.Author.Needs.{needs}
-use Prim.Native.Nat.{ℕ, _<_}
+use Prim.Native.Nat.{_<_}
 use mathlib.Core.Path.{_≡_, sym, _∙_}
 use mathlib.Core.Bool.{_&&_}
 use native.Mathlib.Omega.{arith}
 use lib.Dec.{ltb}
 use lib.ListN.{length, getD}
+use borrow.Author.Needs.{needs}
 use borrow.Author.Tests.{ltb-true}
-use Rattle.model.specs.Calls.{front, copyRefusal, lowestEmpty, copyNumber, makeCopy}
+use Rattle.model.specs.Calls.{copyRefusal, lowestEmpty, copyNumber, makeCopy}
 use Rattle.model.specs.Tables.{Desk, lent, slotsOf}
-use Rattle.model.specs.Flat.{flat, place}
+use Rattle.model.specs.Flat.{flat}
 use Rattle.model.proofs.TestLaws.{and-both, refused-by-front, refused-by-own, accepted-by-both}
 use Rattle.calls.proofs.FrontLaws.{Ready, ready-names}
 use Rattle.calls.proofs.EffectLaws.{copy-clear, read-as, copied-as}
@@ -22,15 +22,10 @@ start c = c .before .before .before .before .before .before .before
 abbrev desk : tie.Start → Desk
 desk c = lent (c .args .s) (c .args .owners .now) (c .args .send .now) (c .args .receive .now) (c .args .pool .now)
 
--- 1, 2, 3 are not given
-passed : (c : tie.Else1) → let a = start (c .before) .args in
-    front flat (desk (start (c .before))) (ltb (a .from) (a .s) && ltb (a .to) (a .s) && ltb (a .pointer) (length (a .owners .now))) ≡ 0
-passed c = sym (c .before .front .ensures) ∙ c .if1 .left
-
 known : (c : tie.Else1) → let a = start (c .before) .args in Ready (desk (start (c .before))) (a .from) (a .pointer)
 known c =
     let a = start (c .before) .args in
-    ready-names (desk (start (c .before))) (a .from) (a .pointer) (ltb (a .from) (a .s) && ltb (a .to) (a .s)) (λ e. ltb-true (a .from) (a .s) (and-both _ _ e .0)) (passed c)
+    ready-names (desk (start (c .before))) (a .from) (a .pointer) (ltb (a .from) (a .s) && ltb (a .to) (a .s)) (λ e. ltb-true (a .from) (a .s) (and-both _ _ e .0)) (c .before .front .ensures) (c .if1 .left)
 
 -- the sender's place
 in-send : (c : tie.After-place-of) → c .place-of .result < length (start (c .before .before) .args .send .now)
@@ -49,11 +44,6 @@ own c =
     c .copy-refusal .ensures
     ∙ read-as (desk b) (a .from) (a .pointer) (place-of c .place-of .ensures) (c .before .before .before .lowest-empty .ensures)
     (λ cell counter slot. copyRefusal (a .from) (a .to) (flat .owner (desk b) (a .pointer)) cell counter slot (slotsOf (a .pool .now)))
-
--- none of them is given: the counter can rise, and the slot is empty
-clear : (c : tie.Else2) → let k = c .before in let o = place-of k in let a = start (o .before .before) .args in
-    (getD (a .send .now) (o .place-of .result) 0 ≡ 65535 → ⊥) × (k .before .before .before .lowest-empty .result < slotsOf (a .pool .now))
-clear c = copy-clear _ _ _ _ _ _ _ (sym (c .before .copy-refusal .ensures) ∙ c .if2 .left)
 
 front-requires : tie.Need-front-requires
 front-requires c κs = search needs
@@ -110,7 +100,12 @@ unfolding makeCopy copyNumber
 returns-2 c =
     let k = c .before .before in
     let e = place-of k .before in
-    refused-by-own (desk (start (e .before))) _ (k .copy-refusal .result) _ _ (passed e) (c .before .if2 .taken) (own k) (c .refused2 .ensures)
+    refused-by-own (desk (start (e .before))) _ (k .copy-refusal .result) _ _ (sym (e .before .front .ensures) ∙ e .if1 .left) (c .before .if2 .taken) (own k) (c .refused2 .ensures)
+
+-- none of them is given: the counter can rise, and the slot is empty
+clear : (c : tie.Else2) → let k = c .before in let o = place-of k in let a = start (o .before .before) .args in
+    (getD (a .send .now) (o .place-of .result) 0 ≡ 65535 → ⊥) × (k .before .before .before .lowest-empty .result < slotsOf (a .pool .now))
+clear c = copy-clear _ _ _ _ _ _ _ (sym (c .before .copy-refusal .ensures) ∙ c .if2 .left)
 
 add-send : tie.Need-add-send
 add-send c = let o = place-of (c .before) in omega (arith, clear c .0, c .before .before .before .before .before .before .slice-known3 .given (o .place-of .result))
@@ -145,7 +140,7 @@ returns-3 c =
     let e = place-of k .before in
     let d = desk (start (e .before)) in
     copied-as d _ _ (place-of k .place-of .ensures) (k .before .before .before .lowest-empty .ensures) _ (c .accepted .ensures) (w .write-slot .ensures)
-    ∙ accepted-by-both d _ _ _ (passed e) (sym (own k) ∙ o .if2 .left)
+    ∙ accepted-by-both d _ _ _ (sym (e .before .front .ensures) ∙ e .if1 .left) (sym (own k) ∙ o .if2 .left)
 
 pub make-copy-spec : {M : Type 1} → statement M
 make-copy-spec =

@@ -1,15 +1,14 @@
 -- Delete meets its promise: 1, 2, 3, then 11, 5, 12, 7, then the cell and the slot.
-use borrow.Author.Needs.{needs}
-use Prim.Native.Nat.{ℕ, _<_}
+use Prim.Native.Nat.{_<_}
 use mathlib.Core.Path.{_≡_, sym, _∙_}
-use mathlib.Core.Bool.{_&&_}
 use native.Mathlib.Omega.{arith}
 use lib.Dec.{ltb}
 use lib.ListN.{length}
+use borrow.Author.Needs.{needs}
 use borrow.Author.Tests.{ltb-true}
-use Rattle.model.specs.Calls.{front, deleteRefusal, lowestEmpty, deleteNumber, delete}
+use Rattle.model.specs.Calls.{deleteRefusal, lowestEmpty, deleteNumber, delete}
 use Rattle.model.specs.Tables.{Desk, lent, slotsOf}
-use Rattle.model.specs.Flat.{flat, place}
+use Rattle.model.specs.Flat.{flat}
 use Rattle.model.proofs.TestLaws.{refused-by-front, refused-by-own, accepted-by-both}
 use Rattle.calls.proofs.FrontLaws.{Ready, ready-names}
 use Rattle.calls.proofs.EffectLaws.{delete-clear, read-as, deleted-as}
@@ -22,14 +21,10 @@ start c = c .before .before .before .before .before .before .before
 abbrev desk : tie.Start → Desk
 desk c = lent (c .args .s) (c .args .owners .now) (c .args .send .now) (c .args .receive .now) (c .args .pool .now)
 
--- 1, 2, 3 are not given
-passed : (c : tie.Else1) → let a = start (c .before) .args in front flat (desk (start (c .before))) (ltb (a .site) (a .s) && ltb (a .pointer) (length (a .owners .now))) ≡ 0
-passed c = sym (c .before .front .ensures) ∙ c .if1 .left
-
 known : (c : tie.Else1) → let a = start (c .before) .args in Ready (desk (start (c .before))) (a .site) (a .pointer)
 known c =
     let a = start (c .before) .args in
-    ready-names (desk (start (c .before))) (a .site) (a .pointer) (ltb (a .site) (a .s)) (ltb-true (a .site) (a .s)) (passed c)
+    ready-names (desk (start (c .before))) (a .site) (a .pointer) (ltb (a .site) (a .s)) (ltb-true (a .site) (a .s)) (c .before .front .ensures) (c .if1 .left)
 
 -- the site's place
 in-send : (c : tie.After-place-of) → c .place-of .result < length (start (c .before .before) .args .send .now)
@@ -51,10 +46,6 @@ own c =
     c .delete-refusal .ensures
     ∙ read-as (desk b) (a .site) (a .pointer) (place-of c .place-of .ensures) (c .before .before .before .lowest-empty .ensures)
     (λ cell counter slot. deleteRefusal (a .site) (flat .owner (desk b) (a .pointer)) cell counter slot (slotsOf (a .pool .now)))
-
--- none of them is given: the slot is empty
-clear : (c : tie.Else2) → let k = c .before in k .before .before .before .lowest-empty .result < slotsOf (start (place-of k .before .before) .args .pool .now)
-clear c = delete-clear _ _ _ _ _ _ (sym (c .before .delete-refusal .ensures) ∙ c .if2 .left)
 
 front-requires : tie.Need-front-requires
 front-requires c κs = search needs
@@ -109,7 +100,11 @@ unfolding delete deleteNumber
 returns-2 c =
     let k = c .before .before in
     let e = place-of k .before in
-    refused-by-own (desk (start (e .before))) _ (k .delete-refusal .result) _ _ (passed e) (c .before .if2 .taken) (own k) (c .refused2 .ensures)
+    refused-by-own (desk (start (e .before))) _ (k .delete-refusal .result) _ _ (sym (e .before .front .ensures) ∙ e .if1 .left) (c .before .if2 .taken) (own k) (c .refused2 .ensures)
+
+-- none of them is given: the slot is empty
+clear : (c : tie.Else2) → let k = c .before in k .before .before .before .lowest-empty .result < slotsOf (start (place-of k .before .before) .args .pool .now)
+clear c = delete-clear _ _ _ _ _ _ (sym (c .before .delete-refusal .ensures) ∙ c .if2 .left)
 
 slice-write-receive : tie.Need-slice-write-receive
 slice-write-receive c = in-receive (place-of (c .before))
@@ -138,7 +133,7 @@ returns-3 c =
     let e = place-of k .before in
     let d = desk (start (e .before)) in
     deleted-as d _ _ (place-of k .place-of .ensures) (k .before .before .before .lowest-empty .ensures) (c .accepted .ensures) (w .write-slot .ensures)
-    ∙ accepted-by-both d _ _ _ (passed e) (sym (own k) ∙ o .if2 .left)
+    ∙ accepted-by-both d _ _ _ (sym (e .before .front .ensures) ∙ e .if1 .left) (sym (own k) ∙ o .if2 .left)
 
 pub delete-spec : {M : Type 1} → statement M
 delete-spec =

@@ -1,8 +1,8 @@
 -- The counter after a message: its own refusal is what keeps it from 65,535 and from below 0.
-use borrow.Author.Needs.{needs}
 use mathlib.Core.Path.{_≡_}
 use native.Mathlib.Omega.{arith}
 use lib.Dec.{eqb}
+use borrow.Author.Needs.{needs}
 use borrow.Author.Tests.{eqb-false}
 use Rattle.model.specs.Refusals.{CounterZero, CounterFull, _when_}
 use Rattle.model.proofs.TestLaws.{when-not}

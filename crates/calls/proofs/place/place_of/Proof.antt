@@ -1,8 +1,8 @@
 -- A byte of a site times at most 256 pointers fits.
-use borrow.Author.Needs.{needs}
 use Prim.Native.Nat.{_*_, _≤_}
 use native.Mathlib.Nat.{mul-le-mul}
 use native.Mathlib.Omega.{arith}
+use borrow.Author.Needs.{needs}
 use Rattle.calls.proofs.place.place_of.Statement.{statement}
 use Rattle.calls.proofs.place.place_of.Tie as tie
 

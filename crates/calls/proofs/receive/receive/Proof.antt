@@ -1,9 +1,9 @@
 -- Receive meets its promise: 1, 2, 3, 8, then 9 and the message's own, then the counter, the cell and the slot.
-use borrow.Author.Needs.{needs}
-use Prim.Native.Nat.{ℕ, _<_}
+use Prim.Native.Nat.{_<_}
 use mathlib.Core.Path.{_≡_, sym, _∙_}
 use native.Mathlib.Omega.{arith}
 use lib.ListN.{length}
+use borrow.Author.Needs.{needs}
 use Rattle.model.specs.Tables.{Desk, lent, slotsOf}
 use Rattle.model.proofs.TestLaws.{or-else-none, refused-by-front, refused-by-own, accepted-by-both}
 use Rattle.calls.proofs.FrontLaws.{Ready}

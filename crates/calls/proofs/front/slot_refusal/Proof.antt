@@ -1,17 +1,15 @@
 -- 1, 2, 3 come first, then 8.
-use borrow.Author.Needs.{needs}
 use Prim.Native.Nat.{_<_}
-use mathlib.Core.Path.{_≡_, sym, _∙_}
+use mathlib.Core.Path.{sym, _∙_}
 use native.Mathlib.Omega.{arith}
-use lib.Dec.{ltb}
+use borrow.Author.Needs.{needs}
 use borrow.Author.Tests.{ltb-true, eq-eqb, ne-eqb}
 use Rattle.model.specs.Tables.{Desk, lent, slotsOf}
 use Rattle.model.specs.Flat.{flat}
-use Rattle.model.specs.Calls.{front}
 use Rattle.model.proofs.TestLaws.{or-else-first}
 use Rattle.calls.proofs.FrontLaws.{front-passed}
-use Rattle.calls.proofs.receive.slot_refusal.Statement.{statement}
-use Rattle.calls.proofs.receive.slot_refusal.Tie as tie
+use Rattle.calls.proofs.front.slot_refusal.Statement.{statement}
+use Rattle.calls.proofs.front.slot_refusal.Tie as tie
 
 abbrev start : tie.After-front → tie.Start
 start c = c .before .before .before .before .before
