@@ -39,10 +39,8 @@ pub fn copy_refusal(
     let not_held = when(5, (from != owner) & (cell == 0));
     let counter_full = when(6, counter == 65535);
     let pool_full = when(7, slots <= slot);
-    first_of(
-        same_site,
-        first_of(not_held, first_of(counter_full, pool_full)),
-    )
+    let rest = first_of(counter_full, pool_full);
+    first_of(same_site, first_of(not_held, rest))
 }
 
 // Delete: 11, 5, 12, 7.
@@ -53,8 +51,6 @@ pub fn delete_refusal(site: u8, owner: u8, cell: u8, counter: u16, slot: usize, 
     let not_held = when(5, cell == 0);
     let still_counted = when(12, counter != 0);
     let pool_full = when(7, slots <= slot);
-    first_of(
-        is_owner,
-        first_of(not_held, first_of(still_counted, pool_full)),
-    )
+    let rest = first_of(still_counted, pool_full);
+    first_of(is_owner, first_of(not_held, rest))
 }

@@ -21,6 +21,18 @@ start c = c .before .before .before .before .before
 abbrev desk : tie.Start → Desk
 desk c = lent (c .args .s) (c .args .owners .now) (c .args .send .now) (c .args .receive .now) (c .args .pool .now)
 
+front-requires : tie.Need-front-requires
+front-requires c κs = search needs
+
+refused-requires : tie.Need-refused-requires
+refused-requires c κs = search needs
+
+returns : tie.Need-returns
+unfolding ask askNumber
+returns c =
+    let f = c .before .before in
+    refused-by-front (desk (start f)) _ (f .front .result) _ _ (c .before .if1 .taken) (f .front .ensures) (c .refused .ensures)
+
 known : (c : tie.Else1) → let a = start (c .before) .args in Ready (desk (start (c .before))) (a .site) (a .pointer)
 known c =
     let a = start (c .before) .args in
@@ -33,18 +45,6 @@ at-owner c = c .place-of .ensures
 
 in-send : (c : tie.After-place-of) → c .place-of .result < length (start (c .before .before .before .before) .args .send .now)
 in-send c = rw (at-owner c, ← c .before .if2 .left) (known (c .before .before .before) .in-send)
-
-front-requires : tie.Need-front-requires
-front-requires c κs = search needs
-
-refused-requires : tie.Need-refused-requires
-refused-requires c κs = search needs
-
-returns : tie.Need-returns
-unfolding ask askNumber
-returns c =
-    let f = c .before .before in
-    refused-by-front (desk (start f)) _ (f .front .result) _ _ (c .before .if1 .taken) (f .front .ensures) (c .refused .ensures)
 
 shared-slice-read-owner : tie.Need-shared-slice-read-owner
 shared-slice-read-owner c = known (c .before) .a-pointer

@@ -21,6 +21,24 @@ start c = c .before .before .before .before .before .before .before
 abbrev desk : tie.Start → Desk
 desk c = lent (c .args .s) (c .args .owners .now) (c .args .send .now) (c .args .receive .now) (c .args .pool .now)
 
+front-requires : tie.Need-front-requires
+front-requires c κs = search needs
+
+refused-requires : tie.Need-refused-requires
+refused-requires c κs = search needs
+
+same-length : tie.Need-same-length
+same-length c = search needs
+
+same-length-2 : tie.Need-same-length-2
+same-length-2 c = search needs
+
+returns : tie.Need-returns
+unfolding delete deleteNumber
+returns c =
+    let f = c .before .before in
+    refused-by-front (desk (start f)) _ (f .front .result) _ _ (c .before .if1 .taken) (f .front .ensures) (c .refused .ensures)
+
 known : (c : tie.Else1) → let a = start (c .before) .args in Ready (desk (start (c .before))) (a .site) (a .pointer)
 known c =
     let a = start (c .before) .args in
@@ -46,24 +64,6 @@ own c =
     c .delete-refusal .ensures
     ∙ read-as (desk b) (a .site) (a .pointer) (place-of c .place-of .ensures) (c .before .before .before .lowest-empty .ensures)
     (λ cell counter slot. deleteRefusal (a .site) (flat .owner (desk b) (a .pointer)) cell counter slot (slotsOf (a .pool .now)))
-
-front-requires : tie.Need-front-requires
-front-requires c κs = search needs
-
-refused-requires : tie.Need-refused-requires
-refused-requires c κs = search needs
-
-same-length : tie.Need-same-length
-same-length c = search needs
-
-same-length-2 : tie.Need-same-length-2
-same-length-2 c = search needs
-
-returns : tie.Need-returns
-unfolding delete deleteNumber
-returns c =
-    let f = c .before .before in
-    refused-by-front (desk (start f)) _ (f .front .result) _ _ (c .before .if1 .taken) (f .front .ensures) (c .refused .ensures)
 
 place-of-requires : tie.Need-place-of-requires
 place-of-requires c κs = known c .few-pointers

@@ -8,7 +8,7 @@ enum-known-m : tie.Need-enum-known-m
 enum-known-m c = search needs
 
 returns : tie.Need-returns
-returns c = rw (c .before .before .m .given .1, eq-eqb _ _ (c .if1 .taken))
+returns c = rw (c .before .before .m .given .1, eq-eqb (c .before .before .before .before .args .cell) 1 (c .if1 .taken))
 
 returns-2 : tie.Need-returns-2
 returns-2 c = rw (c .before .before .before .m .given .1, ne-eqb _ _ (c .before .if1 .left), eq-eqb _ _ (c .if2 .taken))

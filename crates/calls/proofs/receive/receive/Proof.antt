@@ -17,6 +17,27 @@ start c = c .before .before .before .before .before .before .before .before
 abbrev desk : tie.Start → Desk
 desk c = lent (c .args .s) (c .args .owners .now) (c .args .send .now) (c .args .receive .now) (c .args .pool .now)
 
+slot-refusal-requires : tie.Need-slot-refusal-requires
+slot-refusal-requires c κs = search needs
+
+refused-requires : tie.Need-refused-requires
+refused-requires c κs = search needs
+
+same-length : tie.Need-same-length
+same-length c = search needs
+
+same-length-2 : tie.Need-same-length-2
+same-length-2 c = search needs
+
+same-length-3 : tie.Need-same-length-3
+same-length-3 c = search needs
+
+returns : tie.Need-returns
+returns c =
+    let f = c .before .before in
+    let b = start f in
+    refused-by-front (desk b) _ (f .slot-refusal .result) _ _ (c .before .if1 .taken) (f .slot-refusal .ensures) (c .refused .ensures) ∙ receive-as (desk b) (b .args .slot)
+
 -- 1, 2, 3, 8 are not given
 passed : (c : tie.Else1) → let b = start (c .before) in slotNumber (desk b) (b .args .slot) ≡ 0
 passed c = sym (c .before .slot-refusal .ensures) ∙ c .if1 .left
@@ -52,27 +73,6 @@ own c =
     let b = start (tested r .before) in
     own-as (desk b) (b .args .slot) (r .before .before .read-slot .ensures) (r .receiver .ensures) (r .before .pointer-of .ensures) (o .place-of .ensures)
     (c .before .before .held-refusal .ensures) (c .before .receive-refusal .ensures) (c .first-of .ensures)
-
-slot-refusal-requires : tie.Need-slot-refusal-requires
-slot-refusal-requires c κs = search needs
-
-refused-requires : tie.Need-refused-requires
-refused-requires c κs = search needs
-
-same-length : tie.Need-same-length
-same-length c = search needs
-
-same-length-2 : tie.Need-same-length-2
-same-length-2 c = search needs
-
-same-length-3 : tie.Need-same-length-3
-same-length-3 c = search needs
-
-returns : tie.Need-returns
-returns c =
-    let f = c .before .before in
-    let b = start f in
-    refused-by-front (desk b) _ (f .slot-refusal .result) _ _ (c .before .if1 .taken) (f .slot-refusal .ensures) (c .refused .ensures) ∙ receive-as (desk b) (b .args .slot)
 
 read-slot-requires : tie.Need-read-slot-requires
 read-slot-requires c κs = omega (arith, in-pool (c .before))
