@@ -13,10 +13,9 @@ ghost use Rattle.model.specs.Flat.{flat};
 pub fn front(s: u8, owners: &[u8], send: &[u16], receive: &[u8], pool: &[u8], named: bool) -> u8
     ensures { λ r. ⌜ r ≡ frontOf flat (lent s (now (owners .entry)) (now (send .entry)) (now (receive .entry)) (now (pool .entry))) named ⌝ }
 {
-    first_of(
-        lent_refusal(s, owners, send, receive, pool),
-        when(3, !named),
-    )
+    let bad_lent = lent_refusal(s, owners, send, receive, pool);
+    let bad_name = when(3, !named);
+    first_of(bad_lent, bad_name)
 }
 
 // 1, 2, 3, 8: whether there is a message to receive.
