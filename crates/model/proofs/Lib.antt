@@ -5,4 +5,5 @@ pub mod PlaceLaws
 pub mod SlotLaws
 pub mod ShapeLaws
 pub mod Fourteen
+pub mod Edges
 pub mod FlatLaws
