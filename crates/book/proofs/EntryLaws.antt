@@ -1,6 +1,6 @@
 -- Where the code's walk over a book stands: at the entries, as long as there are any.
 use Prim.Native.Nat.{ℕ, zero, suc, _+_, _-_, _≤_, _<_}
-use mathlib.Core.Path.{_≡_, refl, sym, ap, _∙_}
+use mathlib.Core.Path.{_≡_, refl, _∙_}
 use mathlib.Core.Bool.{Bool, true, false, _&&_, cond}
 use mathlib.Core.List.{List}
 use mathlib.Core.Logic.{⊎-elim}
@@ -8,12 +8,12 @@ use native.Mathlib.Nat.{eq-or-lt-of-le, add-zero, add-suc}
 use native.Mathlib.Numerals.{add-one}
 use native.Mathlib.Omega.{arith}
 use lib.Dec.{leb, eqb}
-use lib.ListN.{length, getD}
-use borrow.Author.Tests.{leb-true, le-leb, lt-leb, eqb-true, eq-eqb}
+use lib.ListN.{length, getD, length-take, length-drop}
+use borrow.Author.Tests.{leb-true, le-leb, lt-leb, eqb-true}
 use Rattle.model.specs.Questions.{every}
 use Rattle.model.proofs.TestLaws.{same-test, and-both, and-false}
 use Rattle.model.proofs.QuestionLaws.{every-at}
-use Rattle.book.specs.Book.{entryAt, lengthByte, longEnough, entries}
+use Rattle.book.specs.Book.{entryAt, lengthByte, addressOf, longEnough, entries}
 use Rattle.book.specs.Walk.{entryEnd, walked}
 
 module _ (least : ℕ) (book : List ℕ) where
@@ -124,3 +124,7 @@ module _ (least : ℕ) (book : List ℕ) where
 
     pub entry-end-inside : (p : ℕ) → p < g → entryEnd least book (entryAt book p) ≤ length book
     entry-end-inside p low = omega (arith, entry-end-at (entryAt book p) (entry-long p low) (entry-inside p low), entry-inside p low)
+
+    -- an address is as long as its length byte says
+    pub address-long : (p : ℕ) → p < g → length (addressOf book p) ≡ lengthByte book p
+    address-long p low = let l = entry-inside p low in simp (length-take, length-drop) (omega arith)

@@ -1,18 +1,32 @@
 -- What the walk finds in a book is what a pointer has.
-use Prim.Native.Nat.{ℕ, zero, suc, _+_, _-_, _≤_, _<_}
-use mathlib.Core.Path.{_≡_, refl, sym, ap, _∙_}
+use Prim.Native.Nat.{ℕ, _+_, _-_, _≤_, _<_}
+use mathlib.Core.Path.{_≡_, sym, _∙_}
 use mathlib.Core.Bool.{Bool, true, false, _&&_}
 use mathlib.Core.List.{List}
 use native.Mathlib.Omega.{arith}
-use lib.Dec.{leb, ltb, eqb}
+use lib.Dec.{ltb, eqb}
 use lib.ListN.{length, getD, take, drop}
-use borrow.Author.Tests.{le-leb, lt-leb}
+use borrow.Author.Tests.{le-leb, lt-leb, eqb-true, eq-eqb}
 use Rattle.model.specs.Questions.{some, lowest}
+use Rattle.model.proofs.TestLaws.{and-both}
 use Rattle.model.proofs.QuestionLaws.{some-more, some-done}
-use Rattle.book.specs.Book.{entryAt, lengthByte, addressOf, isBook, same, has, twinBelow, twins}
+use Rattle.book.specs.Book.{entryAt, addressOf, isBook, same, has, twinBelow, twins}
 use Rattle.book.specs.Walk.{entryEnd, walked, holds, meets}
+use Rattle.book.proofs.SameLaws.{same-equal, same-self}
 use Rattle.book.proofs.EntryLaws.{walked-entry, entry-end-after, entry-end-part, entry-end-inside}
 use Rattle.book.proofs.MoreQuestionLaws.{some-at, some-lowest, lowest-same}
+
+-- ---- what it says that a pointer has an owner and an address
+module _ (owners book : List ℕ) (owner : ℕ) (address : List ℕ) (p : ℕ) where
+  pub has-both : has owners book owner address p ≡ true → (getD owners p 0 ≡ owner) × (addressOf book p ≡ address)
+  unfolding has
+  has-both e =
+      let h = and-both (eqb (getD owners p 0) owner) (same (addressOf book p) address) e in
+      (eqb-true _ _ (h .0), same-equal (addressOf book p) address (h .1))
+
+  pub both-has : getD owners p 0 ≡ owner → addressOf book p ≡ address → has owners book owner address p ≡ true
+  unfolding has
+  both-has e f = rw (eq-eqb (getD owners p 0) owner e, ← f, same-self (addressOf book p))
 
 -- ---- whether an address stands at a place, from there to its end
 module _ (book address : List ℕ) (at : ℕ) {end : ℕ} (e : end ≡ entryEnd 1 book at) where
@@ -49,13 +63,12 @@ module _ (owners book : List ℕ) (g : ℕ) (good : isBook g book ≡ true) wher
     there : at ≡ entryAt book p
     there = e ∙ walked-entry 1 book g good p (omega arith)
 
-    pub entry-ends : end ≤ length book
-    entry-ends = rw (f, there) (entry-end-inside 1 book g good p l)
+    pub entry-within : (at + 1 ≤ end) × (end ≤ length book)
+    entry-within =
+        let l : entryEnd 1 book at ≤ length book = rw there (entry-end-inside 1 book g good p l) in
+        (rw f (entry-end-after 1 book at l), rw f l)
 
-    pub entry-after : at + 1 ≤ end
-    entry-after = rw f (entry-end-after 1 book at (rw f at entry-ends))
-
-    pub entry-address : take (end - (at + 1)) (drop (at + 1) book) ≡ addressOf book p
+    entry-address : take (end - (at + 1)) (drop (at + 1) book) ≡ addressOf book p
     entry-address = rw (f, there, entry-end-part 1 book (entryAt book p) (entry-end-inside 1 book g good p l))
 
     -- the pointer has what a lower one has exactly where the lowest that has it is below it

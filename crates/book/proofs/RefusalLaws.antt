@@ -1,49 +1,21 @@
 -- When a question of the book passes its tests, and what the order of its refusals gives where it does not.
-use Prim.Native.Nat.{ℕ, zero, suc, _+_, _≤_, _<_}
-use mathlib.Core.Path.{_≡_, refl, sym, ap, _∙_}
-use mathlib.Core.Bool.{true, false, _&&_, not, cond}
+use Prim.Native.Nat.{ℕ, _≤_, _<_}
+use mathlib.Core.Path.{_≡_, refl, sym, _∙_}
+use mathlib.Core.Bool.{Bool, true, false, not}
 use mathlib.Core.List.{List}
 use native.Mathlib.Omega.{arith}
-use lib.Dec.{leb, ltb, eqb, eqb·suc-zero}
+use lib.Dec.{ltb}
 use lib.ListN.{length}
-use borrow.Author.Tests.{leb-true, ltb-true, lt-ltb, le-ltb, eqb-true, eq-eqb, ne-eqb, not-false}
+use borrow.Author.Tests.{ltb-true, lt-ltb, le-ltb, eq-eqb, ne-eqb, not-false}
 use Rattle.model.specs.Refusals.{_when_, _orElse_}
-use Rattle.model.specs.declared.Posted.the-variants.{Nothing}
-use Rattle.model.specs.declared.Answer.{Answer}
-use Rattle.model.specs.Questions.{lowest}
-use Rattle.model.specs.Answers.{accepted, refused}
+use Rattle.model.specs.Questions.{some, lowest}
 use Rattle.model.specs.Tables.{sizesGood, allBelow, ownersRefusal}
-use Rattle.model.proofs.TestLaws.{and-both, when-not, or-else-none}
-use Rattle.book.specs.Book.{entryAt, isBook, has, twins, bookRefusal, addressNumber, answered, checkNumber, searchNumber}
-use Rattle.book.specs.Walk.{walked, addressPlace}
+use Rattle.model.proofs.TestLaws.{when-not, or-else-none}
+use Rattle.book.specs.Book.{entryAt, isBook, has, twins, bookRefusal, addressNumber, checkNumber, searchNumber}
+use Rattle.book.specs.Walk.{walked, entryPlace}
 use Rattle.book.proofs.MoreQuestionLaws.{some-lowest}
+use Rattle.book.proofs.OrderLaws.{or-else-most, when-most}
 use Rattle.book.proofs.EntryLaws.{walked-all}
-
--- a number that is given is the order's
-pub number-first : (n m k : ℕ) → (n ≡ 0 → ⊥) → n ≡ m → n ≡ m orElse k
-number-first zero m k given e = absurd (given refl)
-number-first (suc n) m k given e = rw (← e)
-
--- an answer, at each place where the code returns: a number that is given, or none
-pub refused-answer : (n number value : ℕ) {r : Answer} → (n ≡ 0 → ⊥) → n ≡ number → r ≡ refused n → r ≡ answered number value
-refused-answer zero number value given e q = absurd (given refl)
-refused-answer (suc n) number value given e q = rw (← e) q
-
-pub accepted-answer : (number value : ℕ) {r : Answer} → 0 ≡ number → r ≡ accepted value Nothing → r ≡ answered number value
-accepted-answer number value e q = rw (← e) q
-
--- what is 0 after a refusal and is not 0 comes after none
-accepts : (n place : ℕ) → (cond (eqb n 0) place 0 ≡ 0 → ⊥) → n ≡ 0
-accepts zero place h = refl
-accepts (suc n) place h = absurd (h (rw (eqb·suc-zero n)))
-
--- S and owners that pass 1 and 2: at most 256 owners
-pub owners-few : (s : ℕ) (owners : List ℕ) → ownersRefusal s owners ≡ 0 → length owners ≤ 256
-unfolding ownersRefusal
-owners-few s owners e =
-    let h = or-else-none (1 when not (sizesGood s (length owners))) (2 when not (allBelow s owners)) e in
-    let g = not-false (sizesGood s (length owners)) (when-not 0 (not (sizesGood s (length owners))) (h .0)) in
-    leb-true _ _ (and-both (leb 1 s && leb s 64) (leb (length owners) 256) g .1)
 
 module _ (s : ℕ) (owners book : List ℕ) where
   -- ---- 1, 2, 18
@@ -52,6 +24,14 @@ module _ (s : ℕ) (owners book : List ℕ) where
   book-passes e =
       let h = or-else-none (ownersRefusal s owners) (18 when not (isBook (length owners) book)) e in
       (h .0, not-false _ (when-not 17 (not (isBook (length owners) book)) (h .1)))
+
+  pub book-most : bookRefusal s owners book ≤ 18
+  unfolding bookRefusal ownersRefusal
+  book-most =
+      or-else-most (1 when not (sizesGood s (length owners)) orElse 2 when not (allBelow s owners)) (18 when not (isBook (length owners) book)) 18
+      (or-else-most (1 when not (sizesGood s (length owners))) (2 when not (allBelow s owners)) 18
+      (when-most 1 (not (sizesGood s (length owners))) 18 (omega arith)) (when-most 2 (not (allBelow s owners)) 18 (omega arith)))
+      (when-most 18 (not (isBook (length owners) book)) 18 (omega arith))
 
   -- the walk over all entries ends elsewhere than the book: 18; it ends there: none
   module _ (passed : ownersRefusal s owners ≡ 0) {at : ℕ} (e : at ≡ walked 1 book 0 (length owners)) where
@@ -79,20 +59,30 @@ module _ (s : ℕ) (owners book : List ℕ) where
     unfolding addressNumber
     address-given e l = rw (e, lt-ltb p (length owners) l)
 
-    -- where the address starts: 0 after a refusal, never else
-    pub place-refused : (addressNumber s owners book p ≡ 0 → ⊥) → 0 ≡ addressPlace s owners book p
-    unfolding addressPlace
+    -- where its entry starts: nowhere in the book after a refusal
+    pub place-refused : (addressNumber s owners book p ≡ 0 → ⊥) → length book ≡ entryPlace s owners book p
+    unfolding entryPlace
     place-refused h = rw (ne-eqb (addressNumber s owners book p) 0 h)
 
-    pub place-given : addressNumber s owners book p ≡ 0 → entryAt book p + 1 ≡ addressPlace s owners book p
-    unfolding addressPlace
+    pub place-given : addressNumber s owners book p ≡ 0 → entryAt book p ≡ entryPlace s owners book p
+    unfolding entryPlace
     place-given e = rw e
 
-    pub place-passes : (addressPlace s owners book p ≡ 0 → ⊥) → addressNumber s owners book p ≡ 0
-    unfolding addressPlace
-    place-passes h = accepts (addressNumber s owners book p) (entryAt book p + 1) h
-
   -- ---- the check: 19
+  pub check-passes : checkNumber s owners book ≡ 0 → (bookRefusal s owners book ≡ 0) × (twins owners book ≡ false)
+  unfolding checkNumber
+  check-passes e =
+      let h = or-else-none (bookRefusal s owners book) (19 when twins owners book) e in
+      (h .0, when-not 18 (twins owners book) (h .1))
+
+  pub check-not-passed : checkNumber s owners book ≡ 19 → twins owners book ≡ true
+  unfolding checkNumber
+  check-not-passed e = go (twins owners book) e
+    where
+      go : (b : Bool) → (bookRefusal s owners book orElse 19 when b) ≡ 19 → b ≡ true
+      go true f = refl
+      go false f = let l = or-else-most (bookRefusal s owners book) 0 18 book-most (omega arith) in absurd (omega arith)
+
   module _ (passed : bookRefusal s owners book ≡ 0) where
     pub check-twins : twins owners book ≡ true → 19 ≡ checkNumber s owners book
     unfolding checkNumber
@@ -117,3 +107,20 @@ module _ (s : ℕ) (owners book : List ℕ) where
       unfolding searchNumber
       search-found l h =
           rw (passed, lt-ltb owner s l, some-lowest (has owners book owner wanted) (length owners), lt-ltb (lowest (length owners) (has owners book owner wanted)) (length owners) h)
+
+  pub search-passes : (owner : ℕ) (wanted : List ℕ) → searchNumber s owners book owner wanted ≡ 0
+      → (bookRefusal s owners book ≡ 0) × (lowest (length owners) (has owners book owner wanted) < length owners)
+  unfolding searchNumber
+  search-passes owner wanted e =
+      let found = some (length owners) (has owners book owner wanted) in
+      let h = or-else-none (bookRefusal s owners book) (3 when not (ltb owner s) orElse 20 when not found) e in
+      let k = or-else-none (3 when not (ltb owner s)) (20 when not found) (h .1) in
+      (h .0, ltb-true _ _ (sym (some-lowest (has owners book owner wanted) (length owners)) ∙ not-false _ (when-not 19 (not found) (k .1))))
+
+  -- a search for what some pointer has gives none above 18
+  pub search-most : (owner : ℕ) (wanted : List ℕ) → some (length owners) (has owners book owner wanted) ≡ true → searchNumber s owners book owner wanted ≤ 18
+  unfolding searchNumber
+  search-most owner wanted e =
+      rw e
+      (or-else-most (bookRefusal s owners book) (3 when not (ltb owner s) orElse 0) 18 book-most
+      (or-else-most (3 when not (ltb owner s)) 0 18 (when-most 3 (not (ltb owner s)) 18 (omega arith)) (omega arith)))

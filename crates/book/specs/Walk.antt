@@ -26,6 +26,6 @@ holds book address at = leb (entryEnd 1 book at) (length book) && same (take (ge
 unfoldable pub meets : List ℕ → List ℕ → ℕ → List ℕ → ℕ → Bool
 meets owners book owner address p = eqb (getD owners p 0) owner && holds book address (walked 1 book 0 p)
 
--- where the address of a pointer starts; 0, where no address does, after a refusal
-unfoldable pub addressPlace : ℕ → List ℕ → List ℕ → ℕ → ℕ
-addressPlace s owners book p = cond (eqb (addressNumber s owners book p) 0) (entryAt book p + 1) 0
+-- where the entry of a pointer starts; the book's length, where none does, after a refusal
+unfoldable pub entryPlace : ℕ → List ℕ → List ℕ → ℕ → ℕ
+entryPlace s owners book p = cond (eqb (addressNumber s owners book p) 0) (entryAt book p) (length book)

@@ -14,7 +14,7 @@ use tables::lent::owners_refusal;
 ghost use mathlib.Core.Path.{_≡_};
 ghost use Rattle.book.specs.Part.{seen};
 ghost use Rattle.book.specs.Book.{bookRefusal, addressNumber, addressPart, checkAnswer, searchAnswer};
-ghost use Rattle.book.specs.Walk.{addressPlace};
+ghost use Rattle.book.specs.Walk.{entryPlace};
 
 // 1, 2 of S and the owners, then 18.
 fn book_refusal(s: u8, owners: &[u8], book: &[u8]) -> u8
@@ -44,34 +44,35 @@ pub fn address_number(s: u8, owners: &[u8], book: &[u8], pointer: u8) -> u8
     0
 }
 
-// Where the address of a pointer starts in the book; 0 after a refusal.
-fn address_place(s: u8, owners: &[u8], book: &[u8], pointer: u8) -> usize
-    ensures { λ r. ⌜ r ≡ addressPlace s (now (owners .entry)) (now (book .entry)) pointer ⌝ }
+// Where the entry of a pointer starts; the book's length, where none does, after a refusal.
+fn entry_place(s: u8, owners: &[u8], book: &[u8], pointer: u8) -> usize
+    ensures { λ r. ⌜ r ≡ entryPlace s (now (owners .entry)) (now (book .entry)) pointer ⌝ }
 {
     if owners_refusal(s, owners) != 0 {
-        return 0;
+        return book.len();
     }
     let g = owners.len();
     let p = pointer as usize;
     if g <= p {
-        return 0;
+        return book.len();
     }
     let at = walk(1, book, 0, p);
     if walk(1, book, at, g - p) != book.len() {
-        return 0;
+        return book.len();
     }
-    at + 1
+    at
 }
 
-// The question for an address: the address as a part of the lent book; after a refusal the part is empty.
+// The question for an address: the address as that part of the lent book; after a refusal the part is empty.
 pub fn address<'a>(s: u8, owners: &[u8], book: &'a [u8], pointer: u8) -> &'a [u8]
     ensures { λ r. ⌜ seen r ≡ addressPart s (now (owners .entry)) (seen (book .entry)) pointer ⌝ }
 {
-    let start = address_place(s, owners, book, pointer);
-    if start == 0 {
+    let at = entry_place(s, owners, book, pointer);
+    if at == book.len() {
         return &book[0..0];
     }
-    let end = start + (book[start - 1] as usize);
+    let start = at + 1;
+    let end = start + (book[at] as usize);
     &book[start..end]
 }
 

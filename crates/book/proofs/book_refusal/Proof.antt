@@ -1,9 +1,9 @@
 -- `book_refusal`: 1 and 2 come first; then the walk ends where the book does, or not.
 use mathlib.Core.Path.{sym, _∙_}
 use borrow.Author.Needs.{needs}
-use Rattle.model.specs.Tables.{ownersRefusal}
 use Rattle.book.specs.Book.{bookRefusal}
-use Rattle.book.proofs.RefusalLaws.{number-first, book-bad, book-good}
+use Rattle.book.proofs.OrderLaws.{number-first}
+use Rattle.book.proofs.RefusalLaws.{book-bad, book-good}
 use Rattle.book.proofs.book_refusal.Statement.{statement}
 use Rattle.book.proofs.book_refusal.Tie as tie
 
@@ -20,12 +20,12 @@ walk-requires c κs = search needs
 returns-2 : tie.Need-returns-2
 returns-2 c =
     let o = c .before .before .before in
-    book-bad _ _ _ (sym (o .owners-refusal .ensures) ∙ c .before .before .if1 .left) (c .before .walk .ensures) (c .if2 .taken)
+    book-bad _ _ _ (sym (o .owners-refusal .ensures) ∙ c .before .before .if1 .left) (c .before .walk .ensures) (search needs)
 
 returns-3 : tie.Need-returns-3
 returns-3 c =
     let o = c .before .before .before in
-    book-good _ _ _ (sym (o .owners-refusal .ensures) ∙ c .before .before .if1 .left) (c .before .walk .ensures) (c .if2 .left)
+    book-good _ _ _ (sym (o .owners-refusal .ensures) ∙ c .before .before .if1 .left) (c .before .walk .ensures) (search needs)
 
 pub book-refusal-spec : {M : Type 1} → statement M
 book-refusal-spec =

@@ -1,9 +1,11 @@
 -- `check`: 1, 2, 18 come first, then 19.
-use mathlib.Core.Path.{sym, _∙_}
+use mathlib.Core.Path.{refl, sym, _∙_}
 use native.Mathlib.Omega.{arith}
 use borrow.Author.Needs.{needs}
 use Rattle.book.specs.Book.{checkNumber, checkAnswer}
-use Rattle.book.proofs.RefusalLaws.{number-first, refused-answer, accepted-answer, book-passes, check-twins, check-passed}
+use Rattle.book.proofs.OrderLaws.{number-first}
+use Rattle.book.proofs.AnswerLaws.{refused-answer, accepted-answer}
+use Rattle.book.proofs.RefusalLaws.{book-passes, check-twins, check-passed}
 use Rattle.book.proofs.check.Statement.{statement}
 use Rattle.book.proofs.check.Tie as tie
 
@@ -41,7 +43,7 @@ unfolding checkAnswer
 returns-3 c =
     let n = c .before .before .before in
     let passed = sym (n .before .book-refusal .ensures) ∙ n .if1 .left in
-    accepted-answer _ 0 (check-passed _ _ _ passed (sym (c .before .before .has-twins .ensures) ∙ c .before .if2 .left)) (c .accepted .ensures)
+    accepted-answer _ 0 (check-passed _ _ _ passed (sym (c .before .before .has-twins .ensures) ∙ c .before .if2 .left)) refl (c .accepted .ensures)
 
 pub check-spec : {M : Type 1} → statement M
 check-spec =

@@ -11,7 +11,10 @@ use Rattle.book.specs.Book.{has, bookRefusal, searchNumber, searchAnswer
 use Rattle.book.specs.Walk.{walked, meets}
 use Rattle.book.proofs.EntryLaws.{walked-rest}
 use Rattle.book.proofs.FindLaws.{lowest-meets}
-use Rattle.book.proofs.RefusalLaws.{number-first, refused-answer, accepted-answer, owners-few, book-passes, book-bad, book-good, search-beyond, search-nowhere, search-found}
+use Rattle.book.proofs.OrderLaws.{number-first}
+use Rattle.book.proofs.OwnerLaws.{owners-few}
+use Rattle.book.proofs.AnswerLaws.{refused-answer, accepted-answer}
+use Rattle.book.proofs.RefusalLaws.{book-passes, book-bad, book-good, search-beyond, search-nowhere, search-found}
 use Rattle.book.proofs.search.Statement.{statement}
 use Rattle.book.proofs.search.Tie as tie
 
@@ -31,10 +34,13 @@ returns c =
 lowest-requires : tie.Need-lowest-requires
 lowest-requires c κs = search needs
 
+abbrev entry : tie.After-lowest → tie.Start
+entry c = c .before .before .before .before .before .before
+
 -- at most all pointers are passed
-most : (c : tie.After-lowest) → c .lowest .result .pointer ≤ length (c .before .before .before .before .before .before .args .owners .now)
+most : (c : tie.After-lowest) → c .lowest .result .pointer ≤ length (entry c .args .owners .now)
 most c =
-    let a = c .before .before .before .before .before .before .args in
+    let a = entry c .args in
     omega (arith, c .lowest .ensures .0, lowest-most (meets (a .owners .now) (a .book .now) (a .owner) (a .wanted .now)) 0 (length (a .owners .now)))
 
 sub-walk : tie.Need-sub-walk
@@ -44,12 +50,12 @@ walk-requires : tie.Need-walk-requires
 walk-requires c κs = search needs
 
 -- 1 and 2 are passed, and the walk ends where one over all entries does
-passed : (c : tie.After-walk) → ownersRefusal (c .before .before .before .before .before .before .before .args .s) (c .before .before .before .before .before .before .before .args .owners .now) ≡ 0
+passed : (c : tie.After-walk) → ownersRefusal (entry (c .before) .args .s) (entry (c .before) .args .owners .now) ≡ 0
 passed c = sym (c .before .before .before .owners-refusal .ensures) ∙ c .before .before .if1 .left
 
-whole : (c : tie.After-walk) → c .walk .result ≡ walked 1 (c .before .before .before .before .before .before .before .args .book .now) 0 (length (c .before .before .before .before .before .before .before .args .owners .now))
+whole : (c : tie.After-walk) → c .walk .result ≡ walked 1 (entry (c .before) .args .book .now) 0 (length (entry (c .before) .args .owners .now))
 whole c =
-    let a = c .before .before .before .before .before .before .before .args in
+    let a = entry (c .before) .args in
     walked-rest 1 (a .book .now) (c .before .lowest .result .pointer) (length (a .owners .now)) (most (c .before)) (c .before .lowest .ensures .1) (c .walk .ensures)
 
 refused-requires-2 : tie.Need-refused-requires-2
@@ -64,12 +70,12 @@ returns-2 c =
     (c .refused2 .ensures)
 
 -- it ends there: 18 is passed, and what the walk found is the lowest pointer that has both
-good : (c : tie.Else2) → bookRefusal (c .before .before .before .before .before .before .before .before .args .s) (c .before .before .before .before .before .before .before .before .args .owners .now) (c .before .before .before .before .before .before .before .before .args .book .now) ≡ 0
+good : (c : tie.Else2) → bookRefusal (entry (c .before .before) .args .s) (entry (c .before .before) .args .owners .now) (entry (c .before .before) .args .book .now) ≡ 0
 good c = sym (book-good _ _ _ (passed (c .before)) (whole (c .before)) (c .if2 .left))
 
-found : (c : tie.Else2) → c .before .before .lowest .result .pointer ≡ lowest (length (c .before .before .before .before .before .before .before .before .args .owners .now)) (has (c .before .before .before .before .before .before .before .before .args .owners .now) (c .before .before .before .before .before .before .before .before .args .book .now) (c .before .before .before .before .before .before .before .before .args .owner) (c .before .before .before .before .before .before .before .before .args .wanted .now))
+found : (c : tie.Else2) → c .before .before .lowest .result .pointer ≡ lowest (length (entry (c .before .before) .args .owners .now)) (has (entry (c .before .before) .args .owners .now) (entry (c .before .before) .args .book .now) (entry (c .before .before) .args .owner) (entry (c .before .before) .args .wanted .now))
 found c =
-    let a = c .before .before .before .before .before .before .before .before .args in
+    let a = entry (c .before .before) .args in
     c .before .before .lowest .ensures .0
     ∙ lowest-meets (a .owners .now) (a .book .now) (length (a .owners .now)) (book-passes _ _ _ (good c) .1) (a .owner) (a .wanted .now) (length (a .owners .now)) (omega arith)
 
@@ -105,7 +111,8 @@ returns-5 c =
     let e = c .before .before .before in
     accepted-answer _ _
     (search-found _ _ _ (good e) _ _ (c .before .before .if3 .left) (omega (arith, found e, most (e .before .before), c .before .if4 .left)))
-    (rw (← found e) (c .accepted .ensures))
+    (found e)
+    (c .accepted .ensures)
 
 pub search-spec : {M : Type 1} → statement M
 search-spec =

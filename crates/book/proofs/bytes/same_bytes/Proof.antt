@@ -3,6 +3,7 @@ use Prim.Native.Nat.{_≤_, _-_}
 use mathlib.Core.Path.{_≡_, refl}
 use mathlib.Core.Bool.{true}
 use native.Mathlib.Omega.{arith}
+use borrow.Author.Needs.{needs}
 use lib.ListN.{length}
 use Rattle.model.specs.Questions.{every}
 use Rattle.book.specs.Book.{sameAt}
@@ -17,11 +18,11 @@ abbrev μ-loop : tie.MeasureT-loop
 μ-loop a b i₀ i = length a - i
 
 returns : tie.Need-returns Inv-loop μ-loop
-returns c = same-lengths _ _ (c .if1 .taken)
+returns c = same-lengths _ _ (search needs)
 
 loop-holds : tie.Need-loop-holds Inv-loop μ-loop
 unfolding every
-loop-holds c = (omega arith, c .if1 .left, refl)
+loop-holds c = (omega arith, omega arith, refl)
 
 shared-slice-read-if2 : tie.Need-shared-slice-read-if2 Inv-loop μ-loop
 shared-slice-read-if2 c = omega arith

@@ -11,7 +11,7 @@ use Rattle.model.specs.Questions.{some}
 use Rattle.book.specs.Book.{twinBelow}
 use Rattle.book.specs.Walk.{walked}
 use Rattle.book.proofs.EntryLaws.{walked-next}
-use Rattle.book.proofs.FindLaws.{entry-after, entry-ends, twin-lowest, twin-found, twin-none, twin-nowhere}
+use Rattle.book.proofs.FindLaws.{entry-within, twin-lowest, twin-found, twin-none, twin-nowhere}
 use Rattle.book.proofs.find.has_twins.Statement.{statement}
 use Rattle.book.proofs.find.has_twins.Tie as tie
 
@@ -21,18 +21,15 @@ Inv-loop owners book at₀ p₀ at p = (p ≤ length owners) × (at ≡ walked 1
 abbrev μ-loop : tie.MeasureT-loop
 μ-loop owners book at₀ p₀ at p = length owners - p
 
--- the entry's address is a part of the book
-after : (c : tie.After-entry-end Inv-loop μ-loop) → c .before .before .loop .at + 1 ≤ c .entry-end .result
-after c =
-    let l = c .before .before .loop in
-    let s = c .before .before .before .before .before in
-    entry-after (s .args .owners .now) (s .args .book .now) (length (s .args .owners .now)) (s .pre) (l .p) (c .before .loop-test .taken) (l .inv .1) (c .entry-end .ensures)
+abbrev entry : tie.After-entry-end Inv-loop μ-loop → tie.Start Inv-loop μ-loop
+entry c = c .before .before .before .before .before
 
-ends : (c : tie.After-entry-end Inv-loop μ-loop) → c .entry-end .result ≤ length (c .before .before .before .before .before .args .book .now)
-ends c =
+-- the entry's address is a part of the book
+part : (c : tie.After-entry-end Inv-loop μ-loop) → (c .before .before .loop .at + 1 ≤ c .entry-end .result) × (c .entry-end .result ≤ length (entry c .args .book .now))
+part c =
     let l = c .before .before .loop in
-    let s = c .before .before .before .before .before in
-    entry-ends (s .args .owners .now) (s .args .book .now) (length (s .args .owners .now)) (s .pre) (l .p) (c .before .loop-test .taken) (l .inv .1) (c .entry-end .ensures)
+    let s = entry c in
+    entry-within (s .args .owners .now) (s .args .book .now) (length (s .args .owners .now)) (s .pre) (l .p) (c .before .loop-test .taken) (l .inv .1) (c .entry-end .ensures)
 
 loop-holds : tie.Need-loop-holds Inv-loop μ-loop
 unfolding walked some
@@ -42,36 +39,41 @@ entry-end-requires : tie.Need-entry-end-requires Inv-loop μ-loop
 entry-end-requires c κs = search needs
 
 add-start : tie.Need-add-start Inv-loop μ-loop
-add-start c = omega (arith, after c, ends c)
+add-start c = omega (arith, part c)
 
 shared-slice-read-lowest : tie.Need-shared-slice-read-lowest Inv-loop μ-loop
 shared-slice-read-lowest c = omega arith
 
 sub-lowest : tie.Need-sub-lowest Inv-loop μ-loop
-sub-lowest c = after (c .before)
+sub-lowest c = part (c .before) .0
 
 part-lowest-start : tie.Need-part-lowest-start Inv-loop μ-loop
-part-lowest-start c = after (c .before)
+part-lowest-start c = part (c .before) .0
 
 part-lowest-end : tie.Need-part-lowest-end Inv-loop μ-loop
-part-lowest-end c = ends (c .before)
+part-lowest-end c = part (c .before) .1
 
 lowest-requires : tie.Need-lowest-requires Inv-loop μ-loop
 lowest-requires c κs = omega arith
 
 -- whether pointer p has what a lower one has
-there : (c : tie.After-lowest Inv-loop μ-loop) → twinBelow (c .before .before .before .before .before .before .before .before .args .owners .now) (c .before .before .before .before .before .before .before .before .args .book .now) (c .before .before .before .before .before .loop .p) ≡ ltb (c .lowest .result .pointer) (c .before .before .before .before .before .loop .p)
+abbrev reading : tie.After-lowest Inv-loop μ-loop → tie.After-entry-end Inv-loop μ-loop
+reading c = c .before .before .before
+
+there : (c : tie.After-lowest Inv-loop μ-loop)
+    → twinBelow (entry (reading c) .args .owners .now) (entry (reading c) .args .book .now) (reading c .before .before .loop .p)
+    ≡ ltb (c .lowest .result .pointer) (reading c .before .before .loop .p)
 there c =
-    let e = c .before .before .before in
+    let e = reading c in
     let l = e .before .before .loop in
-    let s = e .before .before .before .before .before in
+    let s = entry e in
     twin-lowest (s .args .owners .now) (s .args .book .now) (length (s .args .owners .now)) (s .pre) (l .p) (e .before .loop-test .taken) (l .inv .1) (e .entry-end .ensures) (c .lowest .ensures .0)
 
 returns : tie.Need-returns Inv-loop μ-loop
 returns c =
     let n = c .before .before in
-    let l = n .before .before .before .before .before .loop in
-    twin-found _ _ (l .p) (n .before .before .before .before .loop-test .taken) (there n ∙ lt-ltb _ _ (c .if1 .taken))
+    let e = reading n in
+    twin-found _ _ (e .before .before .loop .p) (e .before .loop-test .taken) (there n ∙ lt-ltb _ _ (c .if1 .taken))
 
 add-p : tie.Need-add-p Inv-loop μ-loop
 add-p c = omega arith
@@ -82,9 +84,9 @@ loop-less c = omega arith
 loop-again : tie.Need-loop-again Inv-loop μ-loop
 loop-again c =
     let n = c .before .before in
-    let e = n .before .before .before in
+    let e = reading n in
     let l = e .before .before .loop in
-    let a = e .before .before .before .before .before .args in (
+    let a = entry e .args in (
       omega arith,
       walked-next 1 (a .book .now) 0 (l .p) (l .inv .1) (e .entry-end .ensures),
       twin-none (a .owners .now) (a .book .now) (l .p) (l .inv .2) (there n ∙ le-ltb _ _ (c .if1 .left)),

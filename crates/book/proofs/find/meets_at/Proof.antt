@@ -8,13 +8,13 @@ use Rattle.book.proofs.find.meets_at.Statement.{statement}
 use Rattle.book.proofs.find.meets_at.Tie as tie
 
 returns : tie.Need-returns
-returns c = let a = c .before .before .before .args in rw (ne-eqb (a .its) (a .owner) (c .if1 .taken))
+returns c = let a = c .before .before .before .args in rw (ne-eqb (a .its) (a .owner) (search needs))
 
 returns-2 : tie.Need-returns-2
 returns-2 c =
     let s = c .before .before .before .before in
     let a = s .args in
-    rw (eq-eqb (a .its) (a .owner) (c .before .if1 .left)) (holds-not (a .book .now) (a .address .now) (a .at) (s .pre) (c .if2 .taken))
+    rw (eq-eqb (a .its) (a .owner) (search needs)) (holds-not (a .book .now) (a .address .now) (a .at) (s .pre) (c .if2 .taken))
 
 add-start : tie.Need-add-start
 add-start c =
@@ -44,7 +44,7 @@ returns-3 : tie.Need-returns-3
 returns-3 c =
     let s = c .before .before .before .before .before .before in
     let a = s .args in
-    rw (eq-eqb (a .its) (a .owner) (c .before .before .before .if1 .left))
+    rw (eq-eqb (a .its) (a .owner) (search needs))
     (c .same-bytes .ensures ∙ holds-same (a .book .now) (a .address .now) (a .at) (s .pre) (c .before .before .if2 .left))
 
 pub meets-at-spec : {M : Type 1} → statement M

@@ -1,15 +1,14 @@
--- `address_place`: where a test fails the question is refused; where all pass the walk stands at the entry.
-use Prim.Native.Nat.{ℕ, _+_, _-_, _≤_, _<_}
-use mathlib.Core.Path.{_≡_, sym, ap, _∙_}
+-- `entry_place`: where a test fails the question is refused; where all pass the walk stands at the entry.
+use mathlib.Core.Path.{_≡_, sym, _∙_}
 use native.Mathlib.Omega.{arith}
 use borrow.Author.Needs.{needs}
 use lib.ListN.{length}
 use Rattle.model.specs.Tables.{ownersRefusal}
 use Rattle.book.specs.Walk.{walked}
-use Rattle.book.proofs.EntryLaws.{walked-rest, walked-entry, entry-inside}
+use Rattle.book.proofs.EntryLaws.{walked-rest, walked-entry}
 use Rattle.book.proofs.RefusalLaws.{book-passes, book-bad, book-good, address-passes, address-given, place-refused, place-given}
-use Rattle.book.proofs.address_place.Statement.{statement}
-use Rattle.book.proofs.address_place.Tie as tie
+use Rattle.book.proofs.entry_place.Statement.{statement}
+use Rattle.book.proofs.entry_place.Tie as tie
 
 owners-refusal-requires : tie.Need-owners-refusal-requires
 owners-refusal-requires c κs = search needs
@@ -29,15 +28,18 @@ sub-walk c = search needs
 walk-requires-2 : tie.Need-walk-requires-2
 walk-requires-2 c κs = search needs
 
+abbrev entry : tie.After-walk2 → tie.Start
+entry c = c .before .before .before .before .before .before .before
+
 -- 1 and 2 are passed, and the second walk ends where one over all entries does
-passed : (c : tie.After-walk2) → ownersRefusal (c .before .before .before .before .before .before .before .args .s) (c .before .before .before .before .before .before .before .args .owners .now) ≡ 0
+passed : (c : tie.After-walk2) → ownersRefusal (entry c .args .s) (entry c .args .owners .now) ≡ 0
 passed c =
     let n = c .before .before .before in
     sym (n .before .owners-refusal .ensures) ∙ n .if1 .left
 
-whole : (c : tie.After-walk2) → c .walk2 .result ≡ walked 1 (c .before .before .before .before .before .before .before .args .book .now) 0 (length (c .before .before .before .before .before .before .before .args .owners .now))
+whole : (c : tie.After-walk2) → c .walk2 .result ≡ walked 1 (entry c .args .book .now) 0 (length (entry c .args .owners .now))
 whole c =
-    let a = c .before .before .before .before .before .before .before .args in
+    let a = entry c .args in
     walked-rest 1 (a .book .now) (a .pointer) (length (a .owners .now)) (omega arith) (c .before .walk .ensures) (c .walk2 .ensures)
 
 returns-3 : tie.Need-returns-3
@@ -45,29 +47,18 @@ returns-3 c =
     let w = c .before in
     place-refused _ _ _ _ (λ z. let e = book-bad _ _ _ (passed w) (whole w) (c .if3 .taken) ∙ address-passes _ _ _ _ z .0 in absurd (omega arith))
 
-add-result : tie.Need-add-result
-add-result c =
-    let w = c .before in
-    let a = w .before .before .before .before .before .before .before .args in
-    let good = book-passes (a .s) (a .owners .now) (a .book .now) (sym (book-good _ _ _ (passed w) (whole w) (c .if3 .left))) .1 in
-    omega (
-      arith,
-      w .before .walk .ensures,
-      walked-entry 1 (a .book .now) (length (a .owners .now)) good (a .pointer) (omega arith),
-      entry-inside 1 (a .book .now) (length (a .owners .now)) good (a .pointer) (omega arith),
-    )
-
 returns-4 : tie.Need-returns-4
 returns-4 c =
     let w = c .before in
-    let a = w .before .before .before .before .before .before .before .args in
+    let a = entry w .args in
     let z = sym (book-good (a .s) (a .owners .now) (a .book .now) (passed w) (whole w) (c .if3 .left)) in
     let good = book-passes (a .s) (a .owners .now) (a .book .now) z .1 in
-    ap (λ (n : ℕ). n + 1) (w .before .walk .ensures ∙ walked-entry 1 (a .book .now) (length (a .owners .now)) good (a .pointer) (omega arith))
+    w .before .walk .ensures
+    ∙ walked-entry 1 (a .book .now) (length (a .owners .now)) good (a .pointer) (omega arith)
     ∙ place-given (a .s) (a .owners .now) (a .book .now) (a .pointer) (sym (address-given _ _ _ _ z (omega arith)))
 
-pub address-place-spec : {M : Type 1} → statement M
-address-place-spec =
+pub entry-place-spec : {M : Type 1} → statement M
+entry-place-spec =
     tie.close
     (tie.spec
     owners-refusal-requires
@@ -77,5 +68,4 @@ address-place-spec =
     sub-walk
     walk-requires-2
     returns-3
-    add-result
     returns-4)
