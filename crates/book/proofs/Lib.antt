@@ -14,3 +14,4 @@ pub mod Written
 pub mod Handed
 pub mod Found
 pub mod Unique
+pub mod Cases

@@ -1,15 +1,15 @@
 -- What S and owners that pass 1 and 2 are.
 use Prim.Native.Nat.{ℕ, _≤_, _<_}
 use mathlib.Core.Path.{_≡_}
-use mathlib.Core.Bool.{true, _&&_, not}
+use mathlib.Core.Bool.{true, not}
 use mathlib.Core.List.{List}
-use lib.Dec.{leb}
 use lib.ListN.{length, getD}
-use borrow.Author.Tests.{leb-true, ltb-true, not-false}
+use borrow.Author.Tests.{ltb-true, not-false}
 use Rattle.model.specs.Refusals.{_when_}
 use Rattle.model.specs.Tables.{sizesGood, byteBelow, allBelow, ownersRefusal}
-use Rattle.model.proofs.TestLaws.{and-both, when-not, or-else-none}
+use Rattle.model.proofs.TestLaws.{when-not, or-else-none}
 use Rattle.model.proofs.QuestionLaws.{every-at}
+use Rattle.model.proofs.ShapeLaws.{sized}
 
 owners-pass : (s : ℕ) (owners : List ℕ) → ownersRefusal s owners ≡ 0 → (sizesGood s (length owners) ≡ true) × (allBelow s owners ≡ true)
 unfolding ownersRefusal
@@ -19,7 +19,7 @@ owners-pass s owners e =
 
 -- at most 256 owners, each below S
 pub owners-few : (s : ℕ) (owners : List ℕ) → ownersRefusal s owners ≡ 0 → length owners ≤ 256
-owners-few s owners e = leb-true _ _ (and-both (leb 1 s && leb s 64) (leb (length owners) 256) (owners-pass s owners e .0) .1)
+owners-few s owners e = sized s (length owners) (owners-pass s owners e .0) .few-pointers
 
 pub owner-inside : (s : ℕ) (owners : List ℕ) → ownersRefusal s owners ≡ 0 → (p : ℕ) → p < length owners → getD owners p 0 < s
 unfolding allBelow

@@ -1,5 +1,6 @@
 // An owner and an address in a book (Document 01, The address book).
 use crate::bytes::same_bytes;
+use crate::walk::SHORTEST;
 use crate::walk::entry_end;
 ghost use mathlib.Core.Path.{_≡_};
 ghost use mathlib.Core.Bool.{true, _&&_};
@@ -40,7 +41,7 @@ pub fn lowest(n: usize, owners: &[u8], book: &[u8], owner: u8, address: &[u8]) -
     let mut at = 0;
     let mut p = 0;
     while p < n {
-        let end = entry_end(1, book, at);
+        let end = entry_end(SHORTEST, book, at);
         if meets_at(owners[p], book, at, end, owner, address) {
             return Found { pointer: p, at };
         }
@@ -58,7 +59,7 @@ pub fn has_twins(owners: &[u8], book: &[u8]) -> bool
     let mut at = 0;
     let mut p = 0;
     while p < owners.len() {
-        let end = entry_end(1, book, at);
+        let end = entry_end(SHORTEST, book, at);
         let start = at + 1;
         let found = lowest(p, owners, book, owners[p], &book[start..end]);
         if found.pointer < p {

@@ -5,6 +5,7 @@ mod walk;
 
 use crate::find::has_twins;
 use crate::find::lowest;
+use crate::walk::SHORTEST;
 use crate::walk::walk;
 use model::Answer;
 use model::Posted;
@@ -24,7 +25,7 @@ fn book_refusal(s: u8, owners: &[u8], book: &[u8]) -> u8
     if n != 0 {
         return n;
     }
-    if walk(1, book, 0, owners.len()) != book.len() {
+    if walk(SHORTEST, book, 0, owners.len()) != book.len() {
         return 18;
     }
     0
@@ -56,8 +57,8 @@ fn entry_place(s: u8, owners: &[u8], book: &[u8], pointer: u8) -> usize
     if g <= p {
         return book.len();
     }
-    let at = walk(1, book, 0, p);
-    if walk(1, book, at, g - p) != book.len() {
+    let at = walk(SHORTEST, book, 0, p);
+    if walk(SHORTEST, book, at, g - p) != book.len() {
         return book.len();
     }
     at
@@ -102,7 +103,7 @@ pub fn search(s: u8, owners: &[u8], book: &[u8], owner: u8, wanted: &[u8]) -> An
     let found = lowest(g, owners, book, owner, wanted);
     let p = found.pointer;
     let at = found.at;
-    if walk(1, book, at, g - p) != book.len() {
+    if walk(SHORTEST, book, at, g - p) != book.len() {
         return refused(18);
     }
     if s <= owner {

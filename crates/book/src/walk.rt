@@ -2,6 +2,9 @@
 ghost use mathlib.Core.Path.{_≡_};
 ghost use Rattle.book.specs.Walk.{entryEnd, walked};
 
+// An address is 1 to 255 bytes.
+pub const SHORTEST: u8 = 1;
+
 // Past the entry at a place: a length byte of least or more, then as many bytes. Beyond the book's end where there is none.
 pub fn entry_end(least: u8, book: &[u8], at: usize) -> usize
     ensures { λ r. ⌜ r ≡ entryEnd least (now (book .entry)) at ⌝ }
