@@ -25,10 +25,11 @@ lengthByte book p = getD book (entryAt book p) 0
 abbrev pub addressOf : List ℕ → ℕ → List ℕ
 addressOf book p = take (lengthByte book p) (drop (entryAt book p + 1) book)
 
+-- its length is least or more: 1 in an address, 0 where an entry may be empty
 abbrev pub longEnough : ℕ → List ℕ → ℕ → Bool
 longEnough least book p = leb least (lengthByte book p)
 
--- exactly g entries, of length least or more: nothing follows the last entry
+-- exactly g entries, of length least or more: nothing follows the last entry (proofs/Written.antt: these are the books written so)
 unfoldable pub entries : ℕ → ℕ → List ℕ → Bool
 entries least g book = every g (longEnough least book) && eqb (entryAt book g) (length book)
 
