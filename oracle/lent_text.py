@@ -1,0 +1,144 @@
+"""Calls over lent parts as lines of text: README.md, 'The text of a lent call'."""
+
+from collections import namedtuple
+
+import book
+import tables
+from tables import Lent, slot_bytes
+
+UNTOUCHED_COUNT = 0xA5A5A5A5
+
+# A call of the C boundary: its name, what is lent, and the call's own arguments.
+LentCall = namedtuple("LentCall", "name parts arguments")
+BookParts = namedtuple("BookParts", "sites owners book")
+
+# How each argument is written: digits of a number, decimal, or a part.
+ARGUMENT_FORMS = {
+    "open": (), "copy": ("02X", "02X", "02X"), "receive": ("04X",), "delete": ("02X", "02X"),
+    "ask": ("02X", "02X"), "share": ("02X", "02X"), "sheet": ("02X", "d"),
+    "address": ("02X",), "check": (), "search": ("02X", "part")}
+BOOK_CALLS = ("address", "check", "search")
+PLAIN_CALLS = {
+    "open": tables.lent_open, "copy": tables.lent_make_copy, "receive": tables.lent_receive,
+    "delete": tables.lent_delete, "ask": tables.lent_ask}
+
+
+def part_text(part, empty="-"):
+    """Bytes as two digits each; an empty part by its mark."""
+    return bytes(part).hex().upper() or empty
+
+
+def counters_text(counters, empty="-"):
+    """16-bit counters as four digits each, high byte first."""
+    return "".join("%04X" % count for count in counters) or empty
+
+
+def read_part(text):
+    return b"" if text in ("-", "null") else bytes.fromhex(text)
+
+
+def read_counters(text):
+    data = read_part(text)
+    return tuple(256 * high + low for high, low in zip(data[::2], data[1::2]))
+
+
+def lent_texts(lent, empty):
+    """The five texts of lent tables; `empty` gives the mark of each empty part."""
+    return ["%02X" % lent.sites, part_text(lent.owners, empty()),
+            counters_text(lent.send, empty()), part_text(lent.receive, empty()),
+            part_text(lent.pool, empty())]
+
+
+def book_texts(parts, empty):
+    return ["%02X" % parts.sites, part_text(parts.owners, empty()), part_text(parts.book, empty())]
+
+
+def argument_text(form, argument, empty):
+    return part_text(argument, empty()) if form == "part" else format(argument, form)
+
+
+def question_text(call, empty=lambda: "-"):
+    """What is lent and the call, in words of one line."""
+    texts = book_texts if call.name in BOOK_CALLS else lent_texts
+    arguments = [argument_text(form, argument, empty)
+                 for form, argument in zip(ARGUMENT_FORMS[call.name], call.arguments)]
+    return " ".join([call.name] + texts(call.parts, empty) + arguments)
+
+
+def read_argument(form, text):
+    if form == "part":
+        return read_part(text)
+    return int(text, 10 if form == "d" else 16)
+
+
+def read_question(text):
+    """The call that a question stands for."""
+    name, sites, *rest = text.split(" ")
+    if name in BOOK_CALLS:
+        parts = BookParts(int(sites, 16), *map(read_part, rest[:2]))
+        rest = rest[2:]
+    else:
+        owners, send, receive, pool = rest[:4]
+        parts = Lent(int(sites, 16), read_part(owners), read_counters(send),
+                     read_part(receive), read_part(pool))
+        rest = rest[4:]
+    forms = ARGUMENT_FORMS[name]
+    return LentCall(name, parts, tuple(map(read_argument, forms, rest)))
+
+
+def plain_answer_text(answer):
+    """Number, value and message of an answer."""
+    return "%02X %04X %s" % (answer.number, answer.value, part_text(slot_bytes(answer.message)))
+
+
+def after_text(before, after):
+    """Owners, counters, receive bytes and pool after the call; = is what it was."""
+    texts = [part_text(after.owners), counters_text(after.send),
+             part_text(after.receive), part_text(after.pool)]
+    return " ".join("=" if old == new else text
+                    for old, new, text in zip(before[1:], after[1:], texts))
+
+
+def sheet_text(before, after):
+    return "=" if before == after else "".join("%04X" % count for count in after)
+
+
+def table_answer_text(call):
+    """The answer of a call over tables and all lent memory after it."""
+    if call.name == "share":
+        answer, after = tables.lent_share(call.parts, *call.arguments)
+        text = "%02X %d" % answer
+    elif call.name == "sheet":
+        pointer, length = call.arguments
+        paper = [UNTOUCHED_COUNT] * length
+        number, written, after = tables.lent_sheet_into(call.parts, pointer, paper)
+        text = "%02X %s" % (number, sheet_text(paper, written))
+    else:
+        answer, after = PLAIN_CALLS[call.name](call.parts, *call.arguments)
+        text = plain_answer_text(answer)
+    return text + " " + after_text(call.parts, after)
+
+
+def book_answer_text(call):
+    """The answer of a question of the book; owners, book and a wanted address stay."""
+    if call.name == "address":
+        return "%02X %d %d = =" % book.address(*call.parts, *call.arguments)
+    if call.name == "check":
+        return plain_answer_text(book.check(*call.parts)) + " = ="
+    return plain_answer_text(book.search(*call.parts, *call.arguments)) + " = = ="
+
+
+def answer_text(call):
+    return book_answer_text(call) if call.name in BOOK_CALLS else table_answer_text(call)
+
+
+def line_of(call, empty=lambda: "-"):
+    """The whole line: question, expected answer, and all memory after."""
+    return question_text(call, empty) + " > " + answer_text(call)
+
+
+def judge(line):
+    """None where this program gives what the line expects, else what it gives."""
+    question, expected = line.split(" > ")
+    given = answer_text(read_question(question))
+    return None if given == expected else given

@@ -1,0 +1,180 @@
+"""This program's own tests; each yields what was tried and whether it held."""
+
+import book
+import case_stories
+import catch
+import cases_store
+import claims
+import every_state
+import lent_tables
+import lent_text
+import lines
+import program
+import random_runs
+import second
+import soak
+import tables
+from case_parts import answers
+from case_parts import lines as whole_lines
+from desk import COPY, DEC, INC_DEC, open_desk, share_of
+from lent_fixed import tables_of
+from lines import Ask, Delete, Ended, MakeCopy, Reader, Receive, Refusal
+from patched import Mutant, load
+
+REDUCED = dict(inputs=3, lent_calls=420)
+CLAIM_SEEDS = (1, 2, 3)
+
+
+def test_fourteen():
+    """The fourteen lines of document 01, to the byte."""
+    text = whole_lines(*case_stories.FOURTEEN_IN.split())
+    expected = answers(case_stories.FOURTEEN_OUT.split())
+    yield "by the program", program.run(text) == expected
+    yield "by the second opinion", second.transcript(text) == expected
+    yield "as stored", cases_store.stored_cases()[0] == ("fourteen", text, expected)
+
+
+def test_cases():
+    """Every stored case, by this program and by the second opinion."""
+    for name, text, expected in cases_store.stored_cases():
+        yield name, program.run(text) == expected == second.transcript(text)
+
+
+def test_cases_by_hand():
+    """What is written by hand is what is stored, and nothing stored is unknown."""
+    stored = {name: (text, output) for name, text, output in cases_store.stored_cases()}
+    known = cases_store.all_cases()
+    yield "same names", set(stored) == {case.name for case in known}
+    for case in known:
+        if case.expected is not None:
+            yield case.name, stored.get(case.name) == (case.text, answers(case.expected))
+
+
+def all_refusals_of_cases():
+    return {int(line[:2], 16) for _, _, output in cases_store.stored_cases()
+            for line in output.split(b"\n")[:-1]}
+
+
+def test_reach():
+    """Cases and random inputs reach every refusal that `desk` can give, and about four fifths pass."""
+    reachable = {1, 2, 3, 4, 5, 7, 8, 9, 11, 12, 13, 14, 15, 16}
+    yield "refusals of the cases", all_refusals_of_cases() == reachable | {0, 17}
+    statistics = random_runs.Statistics()
+    for number in range(64):
+        text, output = random_runs.numbered_input("reach", number)
+        yield "length of input %d" % number, len(text) <= 8192
+        yield "second opinion on input %d" % number, second.transcript(text) == output
+        statistics.add(output)
+    yield "refusals of inputs", set(statistics.refusals) == reachable | {0}
+    yield "four fifths", 0.74 < statistics.refusals[0] / statistics.lines < 0.86
+    yield "all kinds posted", min(statistics.posted[kind] for kind in (COPY, DEC, INC_DEC)) > 100
+
+
+def test_lines():
+    """Every call is written and read back; the writer keeps to its text."""
+    calls = [MakeCopy(1, 2, 255), Receive(0), Receive(0x1234), Receive(65535), Delete(63, 9), Ask(0, 171)]
+    for call in calls:
+        text = bytearray(b"." * 12)
+        yield "write %s" % (call,), lines.write_line(call, text) == 0 and text[8:] == b"\n..."
+        yield "read %s" % (call,), Reader(bytes(text[:9])).next_call() == call
+        short = bytearray(b"." * 8)
+        yield "short %s" % (call,), lines.write_line(call, short) == 1 and short == b"." * 8
+    yield "exact", lines.write_line(Ask(0, 0), bytearray(9)) == 0
+
+
+def test_reader():
+    """A reader visits each line once, ends, and stays at the end."""
+    reader = Reader(b"01000100\n\nxx\n04000000")
+    expected = [(MakeCopy(0, 1, 0), 9), (Refusal(14), 10), (Refusal(14), 13), (Ask(0, 0), 21),
+                (Ended(), 21), (Ended(), 21)]
+    for call, position in expected:
+        yield "at %d" % position, (reader.next_call(), reader.position) == (call, position)
+    yield "past the end", Reader(b"01000100", 99).next_call() == Ended()
+    yield "no text", Reader(b"").next_call() == Ended()
+
+
+def test_document_numbers():
+    """Single sentences of document 01 about lent tables."""
+    minus_one = tables_of(2, [0], slots=[(INC_DEC, 1, 0, 0, 0)])
+    yield "minus 1", tables.lent_share(minus_one, 1, 0)[0] == (0, -1)
+    other = tables_of(2, [0], {(1, 0): 1})
+    yield "ask by the owner's counter", tables.lent_ask(other, 0, 0)[0] == (0, 1, None)
+    low = tables_of(2, [0], slots=[(INC_DEC, 1, 0, 0, 0)] * 1024)
+    high = tables_of(2, [0], holders=[(1, 0)], slots=[(DEC, 1, 0, 0, 0)] * 1024)
+    yield "lowest share", share_of(tables.decode(low), 1, 0) == -1024
+    yield "highest share", share_of(tables.decode(high), 1, 0) == 1025
+    cell_zero = tables.Lent(2, b"\0", (0, 0), b"\0\0", bytes((COPY, 1, 0, 0, 0)))
+    answer, after = tables.lent_receive(cell_zero, 0)
+    yield "owner's cell 0", answer == (0, 0, (INC_DEC, 0, 0, 1, 0)) and after.receive == b"\1\0"
+    opened = tables.encode(open_desk(3, b"\2\0", 2))
+    yield "opening", opened == tables.Lent(3, b"\2\0", (0,) * 6, b"\0\1\0\0\1\0", bytes(10))
+
+
+def test_book():
+    """Single sentences of document 01 about the book."""
+    entries = b"\2AB\1C"
+    yield "address", book.address(2, b"\0\1", entries, 1) == (0, 4, 1)
+    yield "address refused", book.address(2, b"\0\1", entries, 2) == (3, 0, 0)
+    yield "18 before 3", book.address(2, b"\0\1", entries + b"\1", 2) == (18, 0, 0)
+    yield "search", book.search(2, b"\1\1", b"\2AB\2AB", 1, b"AB") == (0, 0, None)
+    yield "twins", book.check(2, b"\1\1", b"\2AB\2AB").number == 19
+    yield "no twins", book.check(2, b"\1\0", b"\2AB\2AB").number == 0
+    yield "not listed", book.search(2, b"\1\1", b"\2AB\2AB", 1, b"").number == 20
+
+
+def test_lent():
+    """Lent calls come back the same from their text, and agree with the paper's machine."""
+    tally = claims.Tally()
+    for number, line in enumerate(lent_tables.lent_lines("test", 1500)):
+        yield "call %d" % number, lent_text.judge(line) is None
+        soak.try_lent_call(lent_text.read_question(line.split(" > ")[0]), tally)
+    yield "against the paper", tally.checks["paper's bag"] > 300
+
+
+def test_claims():
+    """The claims hold on a few seeds."""
+    for seed in CLAIM_SEEDS:
+        yield "seed %d" % seed, sum(claims.check_claims(seed, 8).checks.values()) > 50000
+
+
+def test_every_state():
+    """The claims hold in every state of small desks."""
+    yield "all states", every_state.walk_small_desks(claims.Tally()) == 7266
+
+
+def fails(claim_fails, check, *arguments):
+    try:
+        check(*arguments)
+        return False
+    except claim_fails:
+        return True
+
+
+def claims_fail_on(name):
+    """Whether the claims fail on a wrong desk of that name, both on runs and in small desks."""
+    mutant = next(found for found in catch.all_mutants() if found.wrong == name)
+    modules = load(mutant.patches, ("paper", "random_runs", "claims", "every_state"))
+    wrong, small = modules["claims"], modules["every_state"]
+    return (fails(wrong.ClaimFails, wrong.check_claims, "wrong", 20)
+            and fails(wrong.ClaimFails, small.walk_every_state, 3, b"\0", 4, wrong.Tally()))
+
+
+def test_claims_fail():
+    """Claims that cannot fail are worth nothing: they fail on wrong desks."""
+    for name in ("a DEC goes to the owner at once when a COPY came first from another site",
+                 "Held never tested", "a COPY to the owner is nothing", "Held by the third site as sender",
+                 "an INC_DEC raises nothing", "share with INC_DECs as plus",
+                 "ask by the cells of the other sites", "a delete does not look at the counter"):
+        yield name, claims_fail_on(name)
+
+
+def test_mutants():
+    """Every wrong desk is caught, on a reduced budget, and the true one is not."""
+    evidence = catch.Evidence(**REDUCED)
+    yield "the true desk", not catch.is_caught(Mutant("nothing", []), evidence)
+    for mutant in catch.all_mutants():
+        yield mutant.wrong, catch.is_caught(mutant, evidence)
+
+
+def all_tests():
+    return [value for name, value in sorted(globals().items()) if name.startswith("test_")]
