@@ -1,8 +1,30 @@
--- What is true of the definitions.
+-- What is true of the definitions. Laws of the words and of the layout; the demands over any lawful layout; the desk of document 01.
 pub mod TestLaws
 pub mod QuestionLaws
 pub mod PlaceLaws
 pub mod SlotLaws
 pub mod ShapeLaws
-pub mod Fourteen
 pub mod FlatLaws
+pub mod RowLaws
+pub mod Exactly
+pub mod Demand1
+pub mod Accepted
+pub mod PoolLaws
+pub mod MeaningLaws
+pub mod KeptLaws
+pub mod CopyAndDelete
+pub mod ReplyLaws
+pub mod ReceiveWrites
+pub mod ReceiveTransition
+pub mod HeldLaws
+pub mod Demand2
+pub mod Converse
+pub mod QuietLaws
+pub mod ReachedLaws
+pub mod Demand3
+pub mod ShareLaws
+pub mod Shares
+pub mod Lemma4
+pub mod TheDesk
+pub mod Fourteen
+pub mod Edges

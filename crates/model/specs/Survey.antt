@@ -3,7 +3,7 @@ use Prim.Native.Nat.{ℕ, zero, suc, _+_}
 use mathlib.Core.Bool.{Bool, _&&_, not, cond}
 use mathlib.Core.List.{List}
 use lib.Dec.{ltb, eqb}
-use lib.IntN.{ℤ, pos, _-ℤ_}
+use lib.IntN.{ℤ, pos, _+ℤ_, _-ℤ_}
 use lib.ListN.{replicate}
 use Rattle.model.specs.declared.Posted.{Posted}
 use Rattle.model.specs.declared.Posted.the-variants.{Copy, Dec, IncDec, Nothing}
@@ -45,6 +45,11 @@ entered p kind site m = 1 when (eqb (kindOf m) kind && eqb (column m) site && eq
 unfoldable pub balance : ℕ → ℕ → ℤ
 balance plus minus = pos plus -ℤ pos minus
 
+-- f 0 + .. + f (n - 1), whole numbers of either sign
+unfoldable pub sumℤ : ℕ → (ℕ → ℤ) → ℤ
+sumℤ zero f = pos 0
+sumℤ (suc n) f = sumℤ n f +ℤ f n
+
 -- three rows of 64 zeros
 abbrev pub blankSheet : List (List ℕ)
 blankSheet = replicate 3 (replicate 64 0)
@@ -72,6 +77,10 @@ module _ {D : Type 0} (L : Layout D) where
 
   abbrev pub shareOf : D → ℕ → ℕ → ℤ
   shareOf d site p = balance (sharePlus d site p) (shareMinus d site p)
+
+  -- the sum of the shares of all sites but the owner
+  unfoldable pub sharesOfOthers : D → ℕ → ℤ
+  sharesOfOthers d p = sumℤ (sites d) (λ site. cond (eqb site (owner d p)) (pos 0) (shareOf d site p))
 
   -- after a refusal the share is 0
   unfoldable pub share : D → ℕ → ℕ → Share

@@ -1,4 +1,5 @@
 -- Five stores, one after another.
+use mathlib.Core.Path.{refl}
 use native.Mathlib.Numerals.{add-one, add-two, add-three, add-four}
 use native.Mathlib.Omega.{arith}
 use lib.ListN.{length-set}
@@ -40,7 +41,7 @@ same-length : tie.Need-same-length
 same-length c = search needs
 
 returns : tie.Need-returns
-returns c = rw (add-one, add-two, add-three, add-four)
+returns c = simp (add-one, add-two, add-three, add-four) refl
 
 pub write-bytes-spec : {M : Type 1} → statement M
 write-bytes-spec =

@@ -1,5 +1,5 @@
 -- The product is taken only of good sizes.
-use mathlib.Core.Path.{sym, _∙_}
+use mathlib.Core.Path.{refl, sym, _∙_}
 use native.Mathlib.Nat.{mul-le-mul}
 use native.Mathlib.Omega.{arith}
 use borrow.Author.Needs.{needs}
@@ -21,7 +21,7 @@ mul-cells c =
     omega (arith, mul-le-mul (z .few-sites) (z .few-pointers))
 
 returns-2 : tie.Need-returns-2
-returns-2 c = simp (sym (c .before .sizes-good .ensures) ∙ not-false _ (c .if1 .left))
+returns-2 c = simp (sym (c .before .sizes-good .ensures) ∙ not-false _ (c .if1 .left)) refl
 
 pub shape-good-spec : {M : Type 1} → statement M
 shape-good-spec = tie.close (tie.spec sizes-good-requires returns mul-cells returns-2)

@@ -1,0 +1,6 @@
+-- What the proofs of the functions cite.
+pub mod OrderLaws
+pub mod FrontLaws
+pub mod EffectLaws
+pub mod ReceiveLaws
+pub mod NoTwoOutcomes

@@ -1,0 +1,46 @@
+-- Demand 2: an accepted call is the published machine's transition on what the lent memory means, over any lawful layout.
+use Prim.Native.Nat.{ℕ, zero, suc, _<_}
+use mathlib.Core.Path.{_≡_, refl, sym, ap, subst}
+use native.Mathlib.Omega.{arith}
+use Rattle.moreau.specs.Transitions.{Guard, PaperGuard}
+use Rattle.model.specs.declared.Posted.{Posted}
+use Rattle.model.specs.declared.Posted.the-variants.{Dec as Decr}
+use Rattle.model.specs.declared.Call.the-variants.{MakeCopy, Receive, Delete, Ask}
+use Rattle.model.specs.Answers.{Outcome, unless}
+use Rattle.model.specs.Layout.{Layout}
+use Rattle.model.specs.Calls.{copyNumber, copied, makeCopy, receiveNumber, received, receive, deleteNumber, deleted, delete, step}
+use Rattle.model.specs.Laws.{Laws}
+use Rattle.model.specs.Flat.{heldRefusal}
+use Rattle.model.specs.Meaning.{meaning}
+use Rattle.model.specs.Demands.{MakesCopy, Receives, Deletes}
+use Rattle.model.proofs.CopyAndDelete.{copy-is-MAKE-COPY, delete-is-DELETE}
+use Rattle.model.proofs.ReceiveTransition.{receive-is-RECEIVE}
+use Rattle.model.proofs.HeldLaws.{held-is-the-guard}
+
+-- what holds of the outcome of a call whose tests give 0 holds of its outcome, where the answer's number is 0
+accepted-as : {D : Type 0} (P : D → Type 0) (n : ℕ) (d : D) (o : Outcome D) → (n ≡ 0 → P (o .desk)) → unless n d o .answer .number ≡ 0 → P (unless n d o .desk)
+accepted-as P zero d o h e = h refl
+accepted-as P (suc n) d o h e = absurd (omega arith)
+
+module _ {D : Type 0} (L : Layout D) (W : Laws L) where
+  -- An accepted make copy (from, to, pointer) is MAKE_COPY(from, to, pointer).
+  pub copy-transition : (d : D) (from to p : ℕ) → step L d (MakeCopy from to p) .answer .number ≡ 0 → MakesCopy L d (step L d (MakeCopy from to p) .desk) from to p
+  unfolding step makeCopy
+  copy-transition d from to p = accepted-as (λ e. MakesCopy L d e from to p) (copyNumber L d from to p) d (copied L d from to p) (λ z. copy-is-MAKE-COPY L W d from to p z .0)
+
+  -- An accepted delete (site, pointer) is DELETE(site, pointer).
+  pub delete-transition : (d : D) (site p : ℕ) → step L d (Delete site p) .answer .number ≡ 0 → Deletes L d (step L d (Delete site p) .desk) site p
+  unfolding step delete
+  delete-transition d site p = accepted-as (λ e. Deletes L d e site p) (deleteNumber L d site p) d (deleted L d site p) (λ z. delete-is-DELETE L W d site p z .0)
+
+  -- An accepted receive (slot) is RECEIVE of the message that stands in the slot, under any guard that the layout's own test implies.
+  pub receive-transition : (May : Guard) (d : D) (slot : ℕ) → ((a b p : ℕ) → slot < L .slots d → L .message d slot ≡ Decr a b p → L .early d slot ≡ 0 → May (meaning L d) a b p)
+      → step L d (Receive slot) .answer .number ≡ 0 → Receives L May d (step L d (Receive slot) .desk) slot
+  unfolding step receive
+  receive-transition May d slot passes = accepted-as (λ e. Receives L May d e slot) (receiveNumber L d slot) d (received L d slot) (λ z. receive-is-RECEIVE L W d May slot z passes .0)
+
+  -- Where that test is Held, the guard is the published one.
+  pub receive-transition-held : ((d : D) (slot : ℕ) → L .early d slot ≡ heldRefusal (L .slots d) (L .message d) (L .message d slot))
+      → (d : D) (slot : ℕ) → step L d (Receive slot) .answer .number ≡ 0 → Receives L PaperGuard d (step L d (Receive slot) .desk) slot
+  receive-transition-held held d slot =
+      receive-transition PaperGuard d slot (λ a b p l m e. held-is-the-guard L d a b p (subst (λ x. heldRefusal (L .slots d) (L .message d) x ≡ 0) m (subst (λ n. n ≡ 0) (held d slot) e)))

@@ -1,0 +1,108 @@
+-- Each refusal number is given exactly where document 01 says so.
+use Prim.Native.Nat.{ℕ, zero, suc, _≤_}
+use mathlib.Core.Path.{_≡_, refl, ap, _∙_}
+use mathlib.Core.Logic.{_≢_}
+use mathlib.Core.Bool.{Bool, true, false, not}
+use mathlib.Core.List.{List, [], _∷_}
+use lib.Dec.{leb, eqb}
+use borrow.Author.Tests.{eqb-true, eqb-false, eq-eqb, ltb-false, le-ltb, not-true}
+use Rattle.model.specs.declared.Posted.{Posted}
+use Rattle.model.specs.declared.Posted.the-variants.{Copy, Dec as Decr, IncDec, Nothing}
+use Rattle.model.specs.declared.Call.{Call}
+use Rattle.model.specs.declared.Call.the-variants.{MakeCopy, Receive, Delete, Ask}
+use Rattle.model.specs.Refusals.{_when_, _orElse_}
+use Rattle.model.specs.Questions.{some, lowest}
+use Rattle.model.specs.Messages.{receiver, pointerOf, isIncDec, receiveRefusal}
+use Rattle.model.specs.Answers.{Outcome, unless}
+use Rattle.model.specs.Layout.{Layout}
+use Rattle.model.specs.Calls.{copyRefusal, deleteRefusal, lentRefusal, front, openRefusal, copyNumber, copied, makeCopy, receiveNumber, received, receive, deleteNumber, deleted, delete, askNumber, asked, ask, step}
+use Rattle.model.specs.Flat.{heldRefusal}
+use Rattle.model.specs.Demands.{Row, _because_, FirstOf, SomeIncDec, NoSlotEmpty, lentRows, openRows, messageRows, rowsOf}
+use Rattle.model.proofs.RowLaws.{by-test, last-test, no-rows, or-else-assoc, false-when, not-equal-when, two-names, two-names-back, three-names, three-names-back, not-held, not-held-back, none-lowest, none-lowest-back, inc-dec-is, is-inc-dec, some-found, some-there}
+
+-- a refusal's number is the answer's, and an accepted call's is 0
+number-of-unless : {D : Type 0} (n : ℕ) (d : D) (o : Outcome D) → o .answer .number ≡ 0 → unless n d o .answer .number ≡ n
+number-of-unless zero d o e = e
+number-of-unless (suc n) d o e = refl
+
+module _ {D : Type 0} (L : Layout D) where
+  open Layout L using (sites, pointers, owner, counter, cell, slots, empty, message, shaped, owned, sound, early)
+
+  -- 1, 2, then the rest
+  lent-rows : (d : D) (rows : List Row) (rest : ℕ) → FirstOf rows rest → FirstOf (lentRows L d rows) (lentRefusal L d orElse rest)
+  unfolding lentRefusal
+  lent-rows d rows rest r =
+      rw (or-else-assoc (1 when not (shaped d)) (2 when not (sound d)) rest)
+      (by-test 0 (not (shaped d)) (shaped d ≡ false) _ _ (not-true (shaped d)) (false-when (shaped d))
+      (by-test 1 (not (sound d)) (sound d ≡ false) _ _ (not-true (sound d)) (false-when (sound d)) r))
+
+  -- 1, 2, 3, then the rest
+  front-rows : (d : D) (named : Bool) (reason : Type 0) (rows : List Row) (rest : ℕ) → (not named ≡ true → reason) → (reason → not named ≡ true) → FirstOf rows rest
+      → FirstOf (lentRows L d (3 because reason ∷ rows)) (front L d named orElse rest)
+  unfolding front
+  front-rows d named reason rows rest yes-then then-yes r =
+      rw (or-else-assoc (lentRefusal L d) _ rest)
+      (lent-rows d (3 because reason ∷ rows) (3 when not named orElse rest) (by-test 2 (not named) reason rows rest yes-then then-yes r))
+
+  pub open-exactly : (d : D) → FirstOf (openRows L d) (openRefusal L d)
+  unfolding openRefusal
+  open-exactly d =
+      by-test 0 (not (shaped d)) (shaped d ≡ false) _ _ (not-true (shaped d)) (false-when (shaped d))
+      (last-test 1 (not (owned d)) (owned d ≡ false) (not-true (owned d)) (false-when (owned d)))
+
+  pool-full : (d : D) → FirstOf (7 because (NoSlotEmpty L d) ∷ []) (7 when leb (slots d) (lowest (slots d) (empty d)))
+  pool-full d = last-test 6 (leb (slots d) (lowest (slots d) (empty d))) (NoSlotEmpty L d) (none-lowest (empty d) (slots d)) (none-lowest-back (empty d) (slots d))
+
+  pub copy-exactly : (d : D) (from to p : ℕ) → FirstOf (rowsOf L d (MakeCopy from to p)) (copyNumber L d from to p)
+  unfolding copyNumber copyRefusal
+  copy-exactly d from to p =
+      front-rows d _ _ _ _ (three-names from to (sites d) p (pointers d)) (three-names-back from to (sites d) p (pointers d))
+      (by-test 3 (eqb from to) (from ≡ to) _ _ (eqb-true from to) (eq-eqb from to)
+      (by-test 4 _ _ _ _ (not-held from (owner d p) (cell d from p)) (not-held-back from (owner d p) (cell d from p))
+      (by-test 5 (eqb (counter d from p) 65535) (counter d from p ≡ 65535) _ _ (eqb-true _ _) (eq-eqb _ _)
+      (pool-full d))))
+
+  pub delete-exactly : (d : D) (site p : ℕ) → FirstOf (rowsOf L d (Delete site p)) (deleteNumber L d site p)
+  unfolding deleteNumber deleteRefusal
+  delete-exactly d site p =
+      front-rows d _ _ _ _ (two-names site (sites d) p (pointers d)) (two-names-back site (sites d) p (pointers d))
+      (by-test 10 (eqb site (owner d p)) (site ≡ owner d p) _ _ (eqb-true _ _) (eq-eqb _ _)
+      (by-test 4 (eqb (cell d site p) 0) (cell d site p ≡ 0) _ _ (eqb-true _ _) (eq-eqb _ _)
+      (by-test 11 (not (eqb (counter d site p) 0)) (counter d site p ≢ 0) _ _ (λ e. eqb-false _ _ (not-true _ e)) (not-equal-when _ _)
+      (pool-full d))))
+
+  ask-exactly : (d : D) (site p : ℕ) → FirstOf (rowsOf L d (Ask site p)) (askNumber L d site p)
+  unfolding askNumber
+  ask-exactly d site p =
+      front-rows d _ _ _ _ (two-names site (sites d) p (pointers d)) (two-names-back site (sites d) p (pointers d))
+      (last-test 12 (not (eqb site (owner d p))) (site ≢ owner d p) (λ e. eqb-false _ _ (not-true _ e)) (not-equal-when _ _))
+
+  -- a layout whose guard is Held
+  module _ (guard : (d : D) (slot : ℕ) → early d slot ≡ heldRefusal (slots d) (message d) (message d slot)) where
+    message-exactly : (d : D) (m : Posted) → FirstOf (messageRows L d m) (heldRefusal (slots d) (message d) m orElse receiveRefusal m (counter d (receiver m) (pointerOf m)))
+    message-exactly d (Copy a b p) = last-test 3 (eqb a b) (a ≡ b) (eqb-true a b) (eq-eqb a b)
+    message-exactly d (Decr a b p) =
+        by-test 8 (some (slots d) (λ slot. isIncDec a b p (message d slot))) (SomeIncDec L d a b p) _ _
+        (λ e.
+        let f = some-found (λ slot. isIncDec a b p (message d slot)) (slots d) e in
+        let m = inc-dec-is a b p (message d (f .0)) (f .2) in
+        record { slot = f .0; third = m .0; in-pool = f .1; holds = m .1 })
+        (λ why. some-there (λ slot. isIncDec a b p (message d slot)) (slots d) (why .slot) (why .in-pool) (ap (isIncDec a b p) (why .holds) ∙ is-inc-dec a b (why .third) p))
+        (last-test 9 (eqb (counter d b p) 0) (counter d b p ≡ 0) (eqb-true _ _) (eq-eqb _ _))
+    message-exactly d (IncDec a b c p) = last-test 5 (eqb (counter d b p) 65535) (counter d b p ≡ 65535) (eqb-true _ _) (eq-eqb _ _)
+    message-exactly d Nothing = no-rows
+
+    receive-exactly : (d : D) (slot : ℕ) → FirstOf (rowsOf L d (Receive slot)) (receiveNumber L d slot)
+    unfolding receiveNumber
+    receive-exactly d slot =
+        front-rows d _ _ _ _ (λ e. ltb-false _ _ (not-true _ e)) (λ l. false-when _ (le-ltb _ _ l))
+        (by-test 7 (empty d slot) (empty d slot ≡ true) _ _ (λ e. e) (λ e. e)
+        (rw (guard d slot) (message-exactly d (message d slot))))
+
+    -- The number of a call is that of the first row of its table whose reason holds; it is 0 where none does.
+    pub call-exactly : (d : D) (c : Call) → FirstOf (rowsOf L d c) (step L d c .answer .number)
+    unfolding step makeCopy receive delete ask copied received deleted asked
+    call-exactly d (MakeCopy from to p) = rw (number-of-unless (copyNumber L d from to p) d (copied L d from to p) refl) (copy-exactly d from to p)
+    call-exactly d (Receive slot) = rw (number-of-unless (receiveNumber L d slot) d (received L d slot) refl) (receive-exactly d slot)
+    call-exactly d (Delete site p) = rw (number-of-unless (deleteNumber L d site p) d (deleted L d site p) refl) (delete-exactly d site p)
+    call-exactly d (Ask site p) = rw (number-of-unless (askNumber L d site p) d (asked L d p) refl) (ask-exactly d site p)

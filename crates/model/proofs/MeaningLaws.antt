@@ -1,0 +1,185 @@
+-- Each write of a lawful layout, on what the memory means.
+use Prim.Native.Nat.{ℕ, zero, suc, _+_, _-_, _≤_, _<_}
+use mathlib.Core.Path.{_≡_, refl, sym, ap, _∙_, fun-ext}
+use mathlib.Core.Logic.{_≢_}
+use mathlib.Core.Bool.{Bool, true, false, _&&_, cond}
+use native.Mathlib.Decide.{ℕ-discrete}
+use native.Mathlib.Omega.{arith}
+use lib.Dec.{ltb, eqb}
+use borrow.Author.Tests.{eq-eqb, ne-eqb, ltb-true, lt-ltb}
+use Rattle.moreau.specs.StateSpace.{Msg, COPY, DEC, INC-DEC, BagOf, Config, _∪_, _∖_, initial}
+use Rattle.moreau.specs.Transformers.{assign, send-T_≔_, rec-T_≔_, post, unpost}
+use Rattle.moreau.proofs.Tables.{assign-here, assign-site, assign-pointer}
+use Rattle.model.specs.declared.Posted.{Posted}
+use Rattle.model.specs.declared.Posted.the-variants.{Copy, Dec as Decr, IncDec, Nothing}
+use Rattle.model.specs.Refusals.{_when_}
+use Rattle.model.specs.Questions.{total}
+use Rattle.model.specs.Layout.{Layout}
+use Rattle.model.specs.Calls.{lentRefusal}
+use Rattle.model.specs.Laws.{Frame, withCell, withSlot, Inside, frame, Reads, Laws}
+use Rattle.model.specs.Meaning.{meant, within, configOf, meaning}
+use Rattle.model.proofs.TestLaws.{and-false}
+use Rattle.model.proofs.PlaceLaws.{changed-cell, cell-of-other-site, cell-of-other-pointer}
+use Rattle.model.proofs.PoolLaws.{total-same, total-of-zeros, term-in-total, total-with-slot}
+
+-- ---- tables
+-- tables that agree inside mean the same
+within-same : {A : Type 0} (S G : ℕ) (f g outside : ℕ → ℕ → A) → ((s p : ℕ) → s < S → p < G → f s p ≡ g s p) → within S G f outside ≡ within S G g outside
+unfolding within
+within-same {A} S G f g outside h = fun-ext (λ s. fun-ext (λ p. go s p (ltb s S) (ltb p G) refl refl))
+  where
+    go : (s p : ℕ) (b c : Bool) → ltb s S ≡ b → ltb p G ≡ c → cond {A = A} (b && c) (f s p) (outside s p) ≡ cond (b && c) (g s p) (outside s p)
+    go s p true true e q = h s p (ltb-true s S e) (ltb-true p G q)
+    go s p true false e q = refl
+    go s p false c e q = refl
+
+pub within-inside : {A : Type 0} (S G : ℕ) (f outside : ℕ → ℕ → A) (s p : ℕ) → s < S → p < G → within S G f outside s p ≡ f s p
+unfolding within
+within-inside S G f outside s p ls lp = rw (lt-ltb s S ls, lt-ltb p G lp)
+
+-- a cell that is changed inside a table is an assignment, whatever is read off a cell
+within-at : {A : Type 0} (S G : ℕ) (f g outside : ℕ → ℕ → A) (s p : ℕ) → f s p ≡ g s p → within S G f outside s p ≡ within S G g outside s p
+unfolding within
+within-at S G f g outside s p e = rw e
+
+within-changed : {A : Type 0} (read : ℕ → A) (S G : ℕ) (table : ℕ → ℕ → ℕ) (outside : ℕ → ℕ → A) (s p n : ℕ) → s < S → p < G
+    → within S G (λ t q. read (withCell table s p n t q)) outside ≡ assign (within S G (λ t q. read (table t q)) outside) s p (read n)
+within-changed {A} read S G table outside s p n ls lp = fun-ext (λ t. fun-ext (λ q. go t q (ℕ-discrete s t) (ℕ-discrete p q)))
+  where
+    go : (t q : ℕ) → Dec (s ≡ t) → Dec (p ≡ q)
+        → within S G (λ t q. read (withCell table s p n t q)) outside t q ≡ assign (within S G (λ t q. read (table t q)) outside) s p (read n) t q
+    go t q (yes e) (yes f) =
+        rw (← e, ← f)
+        (within-inside S G (λ t q. read (withCell table s p n t q)) outside s p ls lp ∙ ap read (changed-cell table s p n) ∙ sym (assign-here (within S G (λ t q. read (table t q)) outside) s p (read n)))
+    go t q (yes e) (no apart) =
+        within-at S G (λ t q. read (withCell table s p n t q)) (λ t q. read (table t q)) outside t q (ap read (cell-of-other-pointer table s p n t q (λ z. apart (sym z)))) ∙ sym (assign-pointer (within S G (λ t q. read (table t q)) outside) s p (read n) t q apart)
+    go t q (no apart) b =
+        within-at S G (λ t q. read (withCell table s p n t q)) (λ t q. read (table t q)) outside t q (ap read (cell-of-other-site table s p n t q (λ z. apart (sym z)))) ∙ sym (assign-site (within S G (λ t q. read (table t q)) outside) s p (read n) t q apart)
+
+eqb-swapped : (a b : ℕ) → eqb a b ≡ eqb b a
+eqb-swapped a b = go (ℕ-discrete a b)
+  where
+    go : Dec (a ≡ b) → eqb a b ≡ eqb b a
+    go (yes e) = rw e
+    go (no apart) = rw (ne-eqb a b apart, ne-eqb b a (λ e. apart (sym e)))
+
+-- ---- a slot's message, put into a configuration and taken out of it
+abbrev pub posted : Posted → Config → Config
+posted (Copy from to p) D = post (COPY from to p) D
+posted (Decr from to p) D = post (DEC from to p) D
+posted (IncDec from to third p) D = post (INC-DEC from to p third) D
+posted Nothing D = D
+
+abbrev pub taken : Posted → Config → Config
+taken (Copy from to p) D = unpost (COPY from to p) D
+taken (Decr from to p) D = unpost (DEC from to p) D
+taken (IncDec from to third p) D = unpost (INC-DEC from to p third) D
+taken Nothing D = D
+
+-- a configuration with another pool
+abbrev withPool : Config → BagOf Msg → Config
+withPool D M = record { sites = D .sites; pointers = D .pointers; owner = D .owner; send = D .send; rec = D .rec; pool = M }
+
+posted-pool : (m : Posted) (D : Config) → withPool D (D .pool ∪ meant m) ≡ posted m D
+unfolding meant
+posted-pool (Copy a b p) D = refl
+posted-pool (Decr a b p) D = refl
+posted-pool (IncDec a b c p) D = refl
+posted-pool Nothing D = ap (withPool D) (fun-ext (λ x. omega arith))
+
+taken-pool : (m : Posted) (D : Config) → withPool D (D .pool ∖ meant m) ≡ taken m D
+unfolding meant
+taken-pool (Copy a b p) D = refl
+taken-pool (Decr a b p) D = refl
+taken-pool (IncDec a b c p) D = refl
+taken-pool Nothing D = ap (withPool D) (fun-ext (λ x. omega arith))
+
+-- ---- what memory means that reads as these tables
+module _ {D : Type 0} (L : Layout D) where
+  open Layout L using (sites, pointers, owner, counter, cell, slots, message, shaped, owned, cleared, setCounter, setCell, handled)
+
+  abbrev readAs : D → (ℕ → ℕ → ℕ) → (ℕ → ℕ → ℕ) → (ℕ → Posted) → Config
+  readAs d counters cells messages = configOf (sites d) (pointers d) (owner d) (slots d) counters cells messages
+
+  reads-mean : (d e : D) {counters cells : ℕ → ℕ → ℕ} {messages : ℕ → Posted} → Reads L d e counters cells messages → meaning L e ≡ readAs d counters cells messages
+  unfolding configOf
+  reads-mean d e {counters} {cells} {messages} r =
+      ap (λ (f : Frame). configOf (f .sites) (f .pointers) (f .owner) (f .slots) (counter e) (cell e) (message e)) (r .same)
+      ∙ (λ w. record {
+        sites = sites d;
+        pointers = pointers d;
+        owner = owner d;
+        send = within-same (sites d) (pointers d) (counter e) counters (λ s p. 0) (r .as-counters) w;
+        rec = within-same (sites d) (pointers d) (λ s p. eqb (cell e s p) 1) (λ s p. eqb (cells s p) 1) (λ s p. eqb (owner d p) s) (λ s p ls lp. ap (λ n. eqb n 1) (r .as-cells s p ls lp)) w;
+        pool = λ m. total-same (slots d) (λ i. meant (message e i) m) (λ i. meant (messages i) m) (λ i li. ap (λ x. meant x m) (r .as-messages i li)) w;
+      })
+
+  module _ (W : Laws L) where
+    -- an opening makes the initial configuration
+    pub opening-means : (d : D) → shaped d ≡ true → owned d ≡ true → meaning L (cleared d) ≡ initial (sites d) (pointers d) (owner d)
+    unfolding configOf within meant
+    opening-means d e o =
+        reads-mean d (cleared d) (W .clears d e o)
+        ∙ (λ w. record {
+          sites = sites d;
+          pointers = pointers d;
+          owner = owner d;
+          send = λ s p. either (ltb s (sites d) && ltb p (pointers d)) w;
+          rec = λ s p. owns s (owner d p) (ltb s (sites d) && ltb p (pointers d)) w;
+          pool = λ m. total-of-zeros (slots d) (λ i. meant Nothing m) (λ i li. refl) w;
+        })
+      where
+        either : (b : Bool) → _≡_ {A = ℕ} (cond b 0 0) 0
+        either true = refl
+        either false = refl
+
+        bit : (b : Bool) → eqb (1 when b) 1 ≡ b
+        bit true = refl
+        bit false = refl
+
+        owns : (s o : ℕ) (b : Bool) → cond b (eqb (1 when eqb s o) 1) (eqb o s) ≡ eqb o s
+        owns s o true = bit (eqb s o) ∙ eqb-swapped s o
+        owns s o false = refl
+
+    pub counter-means : (d : D) (s p n : ℕ) → lentRefusal L d ≡ 0 → s < sites d → p < pointers d → meaning L (setCounter d s p n) ≡ (send-T (s, p) ≔ n) (meaning L d)
+    unfolding configOf
+    counter-means d s p n e ls lp =
+        reads-mean d (setCounter d s p n) (W .sets-counter d s p n e ls lp)
+        ∙ (λ w. record {
+          sites = sites d;
+          pointers = pointers d;
+          owner = owner d;
+          send = within-changed (λ x. x) (sites d) (pointers d) (counter d) (λ s p. 0) s p n ls lp w;
+          rec = meaning L d .rec;
+          pool = meaning L d .pool;
+        })
+
+    pub cell-means : (d : D) (s p n : ℕ) → lentRefusal L d ≡ 0 → s < sites d → p < pointers d → n ≤ 1 → meaning L (setCell d s p n) ≡ (rec-T (s, p) ≔ eqb n 1) (meaning L d)
+    unfolding configOf
+    cell-means d s p n e ls lp ln =
+        reads-mean d (setCell d s p n) (W .sets-cell d s p n e ls lp ln)
+        ∙ (λ w. record {
+          sites = sites d;
+          pointers = pointers d;
+          owner = owner d;
+          send = meaning L d .send;
+          rec = within-changed (λ x. eqb x 1) (sites d) (pointers d) (cell d) (λ s p. eqb (owner d p) s) s p n ls lp w;
+          pool = meaning L d .pool;
+        })
+
+    pub slot-means : (d : D) (i : ℕ) (m : Posted) → lentRefusal L d ≡ 0 → i < slots d → Inside (sites d) (pointers d) m
+        → meaning L (L .post d i m) ≡ posted m (taken (message d i) (meaning L d))
+    unfolding configOf
+    slot-means d i m e li w =
+        reads-mean d (L .post d i m) (W .posts d i m e li w)
+        ∙ ap (withPool (meaning L d)) (fun-ext (λ x. exchanged x))
+        ∙ ap (λ (C : Config). withPool C (C .pool ∪ meant m)) (taken-pool (message d i) (meaning L d))
+        ∙ posted-pool m (taken (message d i) (meaning L d))
+      where
+        exchanged : (x : Msg) → total (slots d) (λ j. meant (withSlot (message d) i m j) x) ≡ total (slots d) (λ j. meant (message d j) x) - meant (message d i) x + meant m x
+        exchanged x =
+            let here = term-in-total (slots d) (λ j. meant (message d j) x) i li in
+            omega (arith, total-with-slot (λ y. meant y x) (message d) i m (slots d) li)
+
+    pub handled-means : (d : D) (i : ℕ) → lentRefusal L d ≡ 0 → i < slots d → meaning L (handled d i) ≡ meaning L d
+    handled-means d i e li = reads-mean d (handled d i) (W .handles d i e li)

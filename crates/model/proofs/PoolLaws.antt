@@ -1,0 +1,48 @@
+-- Totals over the slots of a pool, and one slot changed.
+use Prim.Native.Nat.{ℕ, zero, suc, _+_, _-_, _≤_, _<_}
+use mathlib.Core.Path.{_≡_, refl, sym, ap, ap₂, _∙_}
+use mathlib.Core.Logic.{_≢_, ⊎-elim}
+use native.Mathlib.Decide.{ℕ-discrete}
+use native.Mathlib.Nat.{eq-or-lt-of-le, le-of-suc-le-suc, not-suc-le-zero}
+use native.Mathlib.Omega.{arith}
+use Rattle.model.specs.declared.Posted.{Posted}
+use Rattle.model.specs.Questions.{total}
+use Rattle.model.specs.Laws.{withSlot}
+use Rattle.model.proofs.PlaceLaws.{changed-slot, other-slot}
+
+-- terms that agree add up to the same
+pub total-same : (n : ℕ) (f g : ℕ → ℕ) → ((i : ℕ) → i < n → f i ≡ g i) → total n f ≡ total n g
+unfolding total
+total-same zero f g h = refl
+total-same (suc n) f g h = ap₂ (λ x y. x + y) (total-same n f g (λ i l. h i (omega arith))) (h n (omega arith))
+
+-- terms that are all 0 add up to 0, and a total of 0 has no other term
+pub total-of-zeros : (n : ℕ) (f : ℕ → ℕ) → ((i : ℕ) → i < n → f i ≡ 0) → total n f ≡ 0
+unfolding total
+total-of-zeros zero f h = refl
+total-of-zeros (suc n) f h = omega (arith, total-of-zeros n f (λ i l. h i (omega arith)), h n (omega arith))
+
+pub term-in-total : (n : ℕ) (f : ℕ → ℕ) (i : ℕ) → i < n → f i ≤ total n f
+unfolding total
+term-in-total zero f i l = absurd (not-suc-le-zero l)
+term-in-total (suc n) f i l =
+    ⊎-elim (λ q. rw q (omega arith)) (λ lt. omega (arith, term-in-total n f i lt)) (eq-or-lt-of-le (le-of-suc-le-suc l))
+
+-- a slot's new message for its old one
+pub total-with-slot : (weight : Posted → ℕ) (pool : ℕ → Posted) (i : ℕ) (m : Posted) (n : ℕ) → i < n
+    → total n (λ j. weight (withSlot pool i m j)) + weight (pool i) ≡ total n (λ j. weight (pool j)) + weight m
+unfolding total
+total-with-slot weight pool i m zero l = absurd (not-suc-le-zero l)
+total-with-slot weight pool i m (suc n) l = go (ℕ-discrete n i) (total-with-slot weight pool i m n)
+  where
+    go : Dec (n ≡ i) → (i < n → total n (λ j. weight (withSlot pool i m j)) + weight (pool i) ≡ total n (λ j. weight (pool j)) + weight m)
+        → total n (λ j. weight (withSlot pool i m j)) + weight (withSlot pool i m n) + weight (pool i) ≡ total n (λ j. weight (pool j)) + weight (pool n) + weight m
+    go (yes q) below =
+        let before = total-same n (λ j. weight (withSlot pool i m j)) (λ j. weight (pool j)) (λ j lj. ap weight (other-slot pool i m j (omega arith))) in
+        let here : weight (withSlot pool i m n) ≡ weight m = ap weight (rw q (changed-slot pool i m)) in
+        let old : weight (pool n) ≡ weight (pool i) = rw q in
+        omega arith
+    go (no apart) below =
+        let rest = below (omega arith) in
+        let here = ap weight (other-slot pool i m n apart) in
+        omega arith

@@ -1,0 +1,109 @@
+-- The three demands for the desk of document 01: the theorems over any lawful layout, at `flat`.
+use Prim.Native.Nat.{ℕ, _-_, _<_}
+use mathlib.Core.Path.{_≡_, refl}
+use mathlib.Core.Logic.{_≢_, _↔_}
+use mathlib.Core.Bool.{true}
+use lib.IntN.{pos}
+use Rattle.moreau.specs.StateSpace.{Msg, DEC, INC-DEC, ⟅_⟆}
+use Rattle.moreau.specs.Transformers.{MayCopy, MayReceive, MayDelete}
+use Rattle.moreau.specs.Transitions.{PaperGuard}
+use Rattle.moreau.proofs.Guards.{paper-guard}
+use Rattle.model.specs.declared.Posted.the-variants.{Nothing}
+use Rattle.model.specs.declared.Call.{Call}
+use Rattle.model.specs.declared.Call.the-variants.{MakeCopy, Receive, Delete, Ask}
+use Rattle.model.specs.Answers.{accepted, refused}
+use Rattle.model.specs.Calls.{lentRefusal, openRefusal, step}
+use Rattle.model.specs.Survey.{inFlight, sharePlus, shareMinus, shareOf, sharesOfOthers}
+use Rattle.model.specs.Tables.{Desk}
+use Rattle.model.specs.Flat.{flat, heldRefusal}
+use Rattle.model.specs.Meaning.{meant, meaning}
+use Rattle.model.specs.Demands.{FirstOf, _among_, listed, openRows, rowsOf, names, controls, MakesCopy, Receives, Deletes, Reached, Quiet}
+use Rattle.model.proofs.FlatLaws.{flat-laws}
+use Rattle.model.proofs.Exactly as exactly
+use Rattle.model.proofs.Demand1 as demand-1
+use Rattle.model.proofs.Demand2 as demand-2
+use Rattle.model.proofs.Converse as converse
+use Rattle.model.proofs.Demand3 as demand-3
+use Rattle.model.proofs.Shares as shares
+use Rattle.model.proofs.Lemma4 as lemma-4
+use Rattle.model.proofs.ReachedLaws.{Guarded, guarded-by-held}
+
+-- its test of a message that comes too early is Held
+held : (d : Desk) (slot : ℕ) → flat .early d slot ≡ heldRefusal (flat .slots d) (flat .message d) (flat .message d slot)
+held d slot = refl
+
+guarded : Guarded flat flat-laws PaperGuard
+guarded = guarded-by-held flat flat-laws held
+
+-- ---- demand 1
+-- A refused call leaves all lent memory as it was, with value 0 and no message.
+pub refused-leaves-all : (d : Desk) (c : Call) → step flat d c .answer .number ≢ 0 → step flat d c ≡ record { answer = refused (step flat d c .answer .number); desk = d }
+refused-leaves-all = demand-1.refused-leaves-all flat
+
+-- Its number is one of those that document 01 lists for the call.
+pub refused-by-listed : (d : Desk) (c : Call) → step flat d c .answer .number ≢ 0 → step flat d c .answer .number among listed c
+refused-by-listed = demand-1.refused-by-listed flat held
+
+-- ---- demand 2
+-- A number is given exactly where the table of the call says so.
+pub call-exactly : (d : Desk) (c : Call) → FirstOf (rowsOf flat d c) (step flat d c .answer .number)
+call-exactly = exactly.call-exactly flat held
+
+pub open-exactly : (d : Desk) → FirstOf (openRows flat d) (openRefusal flat d)
+open-exactly = exactly.open-exactly flat
+
+-- An accepted make copy is MAKE_COPY, an accepted receive is RECEIVE under the published guard, an accepted delete is DELETE; ask changes nothing.
+pub copy-transition : (d : Desk) (from to p : ℕ) → step flat d (MakeCopy from to p) .answer .number ≡ 0 → MakesCopy flat d (step flat d (MakeCopy from to p) .desk) from to p
+copy-transition = demand-2.copy-transition flat flat-laws
+
+pub receive-transition : (d : Desk) (slot : ℕ) → step flat d (Receive slot) .answer .number ≡ 0 → Receives flat PaperGuard d (step flat d (Receive slot) .desk) slot
+receive-transition = demand-2.receive-transition-held flat flat-laws held
+
+pub delete-transition : (d : Desk) (site p : ℕ) → step flat d (Delete site p) .answer .number ≡ 0 → Deletes flat d (step flat d (Delete site p) .desk) site p
+delete-transition = demand-2.delete-transition flat flat-laws
+
+pub ask-changes-nothing : (d : Desk) (site p : ℕ) → step flat d (Ask site p) .desk ≡ d
+unfolding step
+ask-changes-nothing = demand-1.ask-changes-nothing flat
+
+-- Where the machine permits a transition, the names are in range, a counter to be raised stands below 65,535, one to be lowered above 0, and a slot is empty where one is needed, the call is accepted.
+pub copy-permitted : (d : Desk) (from to p slot : ℕ) → lentRefusal flat d ≡ 0 → from < d .S → to < d .S → p < flat .pointers d → MayCopy from to p (meaning flat d)
+    → flat .counter d from p < 65535 → slot < flat .slots d → flat .empty d slot ≡ true → step flat d (MakeCopy from to p) .answer .number ≡ 0
+copy-permitted = converse.copy-permitted flat flat-laws held
+
+pub receive-permitted : (d : Desk) (slot : ℕ) (m : Msg) → lentRefusal flat d ≡ 0 → slot < flat .slots d → meant (flat .message d slot) ≡ ⟅ m ⟆ → MayReceive m
+    → ((a b p : ℕ) → m ≡ DEC a b p → PaperGuard (meaning flat d) a b p)
+    → ((a b p : ℕ) → m ≡ DEC a b p → 0 < flat .counter d b p) → ((a b p c : ℕ) → m ≡ INC-DEC a b p c → flat .counter d b p < 65535)
+    → step flat d (Receive slot) .answer .number ≡ 0
+receive-permitted = converse.receive-permitted flat flat-laws held
+
+pub delete-permitted : (d : Desk) (site p slot : ℕ) → lentRefusal flat d ≡ 0 → site < d .S → p < flat .pointers d → MayDelete site p (meaning flat d)
+    → slot < flat .slots d → flat .empty d slot ≡ true → step flat d (Delete site p) .answer .number ≡ 0
+delete-permitted = converse.delete-permitted flat flat-laws held
+
+-- ---- demand 3
+-- From an opened desk, after any calls in any order: the owner's counter is 0 if and only if no other site holds the pointer and no message in flight names it.
+pub counter-zero-iff-quiet : {d : Desk} → Reached flat d → (p : ℕ) → p < flat .pointers d → (flat .counter d (flat .owner d p) p ≡ 0) ↔ Quiet flat d p
+counter-zero-iff-quiet = demand-3.counter-zero-iff-quiet flat flat-laws PaperGuard paper-guard guarded
+
+-- Ask answers 1 exactly when the pointer is quiet.
+pub ask-says-quiet : {d : Desk} → Reached flat d → (p : ℕ) → p < flat .pointers d → (step flat d (Ask (flat .owner d p) p) .answer ≡ accepted 1 Nothing) ↔ Quiet flat d p
+ask-says-quiet = demand-3.ask-says-quiet flat flat-laws PaperGuard paper-guard guarded
+
+-- The incident: while any message names a pointer, ask at its owner answers 0.
+pub ask-waits-for-messages : {d : Desk} → Reached flat d → (p slot : ℕ) → p < flat .pointers d → slot < flat .slots d → names p (flat .message d slot) ≡ true
+    → step flat d (Ask (flat .owner d p) p) .answer ≡ accepted 0 Nothing
+ask-waits-for-messages = demand-3.ask-waits-for-messages flat flat-laws PaperGuard paper-guard guarded
+
+-- No share is negative, and the owner's counter is the sum of the shares of all other sites.
+pub share-is-not-negative : {d : Desk} → Reached flat d → (p : ℕ) → p < flat .pointers d → (s : ℕ) → s < d .S → s ≢ flat .owner d p
+    → shareOf flat d s p ≡ pos (sharePlus flat d s p - shareMinus flat d s p)
+share-is-not-negative = shares.share-is-not-negative flat flat-laws PaperGuard paper-guard guarded
+
+pub owner-counter-is-shares-of-others : {d : Desk} → Reached flat d → (p : ℕ) → p < flat .pointers d → sharesOfOthers flat d p ≡ pos (flat .counter d (flat .owner d p) p)
+owner-counter-is-shares-of-others = shares.owner-counter-is-shares-of-others flat flat-laws PaperGuard paper-guard guarded
+
+-- Lemma 4: the counter of a site that is not the owner is the number of messages that act on it.
+pub counter-is-messages-under-control : {d : Desk} → Reached flat d → (p : ℕ) → p < flat .pointers d → (s : ℕ) → s < d .S → s ≢ flat .owner d p
+    → flat .counter d s p ≡ inFlight flat d (controls s p)
+counter-is-messages-under-control = lemma-4.counter-is-messages-under-control flat flat-laws PaperGuard paper-guard guarded

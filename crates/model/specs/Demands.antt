@@ -1,0 +1,166 @@
+-- The words of the three demands, over any layout.
+use Prim.Native.Nat.{ℕ, _≤_, _<_}
+use mathlib.Core.Path.{_≡_}
+use mathlib.Core.Logic.{_≢_, _⊎_}
+use mathlib.Core.Bool.{Bool, true, false, _&&_}
+use mathlib.Core.List.{List, [], _∷_}
+use lib.Dec.{eqb}
+use Rattle.moreau.specs.StateSpace.{Msg, DEC, ⟅_⟆, _∈_}
+use Rattle.moreau.specs.Transformers.{unpost, MayCopy, MAKE-COPY, MayReceive, RECEIVE, MayDelete, DELETE}
+use Rattle.moreau.specs.Transitions.{Guard}
+use Rattle.model.specs.declared.Posted.{Posted}
+use Rattle.model.specs.declared.Posted.the-variants.{Copy, Dec, IncDec, Nothing}
+use Rattle.model.specs.declared.Call.{Call}
+use Rattle.model.specs.declared.Call.the-variants.{MakeCopy, Receive, Delete, Ask}
+use Rattle.model.specs.Refusals.{BadShape, BadTable, BadName, SameSite, NotHeld, CounterFull, PoolFull, EmptySlot, Held, CounterZero, IsOwner, StillCounted, NotOwner, _when_}
+use Rattle.model.specs.Layout.{Layout}
+use Rattle.model.specs.Calls.{openRefusal, openDesk, step}
+use Rattle.model.specs.Meaning.{meant, meaning}
+
+-- ---- why a call is turned down: a table of numbers and reasons
+pub record Row : Type 1 where
+  pub number : ℕ
+  pub reason : Type 0
+
+infix 90 _because_
+abbrev pub _because_ : ℕ → Type 0 → Row
+n because why = record { number = n; reason = why }
+
+-- n is the number of the first row whose reason holds; 0 where none holds
+unfoldable pub FirstOf : List Row → ℕ → Type 0
+FirstOf [] n = n ≡ 0
+FirstOf (row ∷ rows) n = ((row .reason) × (n ≡ row .number)) ⊎ ((row .reason → ⊥) × FirstOf rows n)
+
+-- ---- the numbers that document 01 lists for a call: 1, 2, 3, then its own
+infix 50 _among_
+unfoldable pub _among_ : ℕ → List ℕ → Type 0
+n among [] = ⊥
+n among (k ∷ ks) = (n ≡ k) ⊎ (n among ks)
+
+abbrev pub listed : Call → List ℕ
+listed (MakeCopy from to p) = 1 ∷ 2 ∷ 3 ∷ 4 ∷ 5 ∷ 6 ∷ 7 ∷ []
+listed (Receive slot) = 1 ∷ 2 ∷ 3 ∷ 8 ∷ 4 ∷ 9 ∷ 10 ∷ 6 ∷ []
+listed (Delete site p) = 1 ∷ 2 ∷ 3 ∷ 11 ∷ 5 ∷ 12 ∷ 7 ∷ []
+listed (Ask site p) = 1 ∷ 2 ∷ 3 ∷ 13 ∷ []
+
+-- a message names a pointer
+abbrev pub names : ℕ → Posted → Bool
+names p (Copy from to q) = eqb q p
+names p (Dec from to q) = eqb q p
+names p (IncDec from to third q) = eqb q p
+names p Nothing = false
+
+-- 1 where a message of p acts on the counter of s: the sender of a COPY, the receiver of a DEC, the third site of an INC_DEC (source document 001, Definition 3)
+abbrev pub controls : ℕ → ℕ → Posted → ℕ
+controls s p (Copy from to q) = 1 when (eqb from s && eqb q p)
+controls s p (Dec from to q) = 1 when (eqb to s && eqb q p)
+controls s p (IncDec from to third q) = 1 when (eqb third s && eqb q p)
+controls s p Nothing = 0
+
+module _ {D : Type 0} (L : Layout D) where
+  open Layout L using (sites, pointers, owner, counter, cell, slots, empty, message, shaped, owned, sound)
+
+  abbrev pub NoSlotEmpty : D → Type 0
+  NoSlotEmpty d = (slot : ℕ) → slot < slots d → empty d slot ≡ false
+
+  -- some slot holds an INC_DEC from a to b for that pointer, with any third site
+  pub record SomeIncDec (d : D) (a b p : ℕ) : Type 0 where
+    pub slot : ℕ
+    pub third : ℕ
+    pub in-pool : slot < slots d
+    pub holds : message d slot ≡ IncDec a b third p
+
+  -- 1, 2, before the rows of a call
+  abbrev pub lentRows : D → List Row → List Row
+  lentRows d rows =
+      BadShape because (shaped d ≡ false)
+      ∷ BadTable because (sound d ≡ false)
+      ∷ rows
+
+  -- opening gives 1 and, for owners, 2
+  abbrev pub openRows : D → List Row
+  openRows d =
+      BadShape because (shaped d ≡ false)
+      ∷ BadTable because (owned d ≡ false)
+      ∷ []
+
+  -- make copy 3, 4, 5, 6, 7
+  abbrev pub copyRows : D → ℕ → ℕ → ℕ → List Row
+  copyRows d from to p =
+      BadName because ((sites d ≤ from) ⊎ (sites d ≤ to) ⊎ (pointers d ≤ p))
+      ∷ SameSite because (from ≡ to)
+      ∷ NotHeld because ((from ≢ owner d p) × (cell d from p ≡ 0))
+      ∷ CounterFull because (counter d from p ≡ 65535)
+      ∷ PoolFull because (NoSlotEmpty d)
+      ∷ []
+
+  -- COPY 4, DEC 9 and 10, INC_DEC 6
+  abbrev pub messageRows : D → Posted → List Row
+  messageRows d (Copy a b p) = SameSite because (a ≡ b) ∷ []
+  messageRows d (Dec a b p) = Held because (SomeIncDec d a b p) ∷ CounterZero because (counter d b p ≡ 0) ∷ []
+  messageRows d (IncDec a b c p) = CounterFull because (counter d b p ≡ 65535) ∷ []
+  messageRows d Nothing = []
+
+  -- receive 3, 8, then the message's
+  abbrev pub receiveRows : D → ℕ → List Row
+  receiveRows d slot =
+      BadName because (slots d ≤ slot)
+      ∷ EmptySlot because (empty d slot ≡ true)
+      ∷ messageRows d (message d slot)
+
+  -- delete 3, 11, 5, 12, 7
+  abbrev pub deleteRows : D → ℕ → ℕ → List Row
+  deleteRows d site p =
+      BadName because ((sites d ≤ site) ⊎ (pointers d ≤ p))
+      ∷ IsOwner because (site ≡ owner d p)
+      ∷ NotHeld because (cell d site p ≡ 0)
+      ∷ StillCounted because (counter d site p ≢ 0)
+      ∷ PoolFull because (NoSlotEmpty d)
+      ∷ []
+
+  -- ask 3, 13
+  abbrev pub askRows : D → ℕ → ℕ → List Row
+  askRows d site p =
+      BadName because ((sites d ≤ site) ⊎ (pointers d ≤ p))
+      ∷ NotOwner because (site ≢ owner d p)
+      ∷ []
+
+  abbrev pub ownRowsOf : D → Call → List Row
+  ownRowsOf d (MakeCopy from to p) = copyRows d from to p
+  ownRowsOf d (Receive slot) = receiveRows d slot
+  ownRowsOf d (Delete site p) = deleteRows d site p
+  ownRowsOf d (Ask site p) = askRows d site p
+
+  -- the rows of a call: 1, 2, then its own
+  abbrev pub rowsOf : D → Call → List Row
+  rowsOf d c = lentRows d (ownRowsOf d c)
+
+  -- ---- e is d after a transition of the published machine, on what the memory means: every counter, every cell, every message
+  pub record MakesCopy (d e : D) (from to p : ℕ) : Type 0 where
+    pub in-range : (from < sites d) × (to < sites d) × (p < pointers d)
+    pub may : MayCopy from to p (meaning L d)
+    pub after : meaning L e ≡ MAKE-COPY from to p (meaning L d)
+
+  -- the message m of the slot is in transit, passes the guard, and may be received
+  pub record Receives (May : Guard) (d e : D) (slot : ℕ) : Type 0 where
+    pub m : Msg
+    pub stands : meant (message d slot) ≡ ⟅ m ⟆
+    pub in-transit : m ∈ meaning L d .pool
+    pub guard : (a b p : ℕ) → m ≡ DEC a b p → May (meaning L d) a b p
+    pub may : MayReceive m
+    pub after : meaning L e ≡ RECEIVE m (unpost m (meaning L d))
+
+  pub record Deletes (d e : D) (site p : ℕ) : Type 0 where
+    pub in-range : (site < sites d) × (p < pointers d)
+    pub may : MayDelete site p (meaning L d)
+    pub after : meaning L e ≡ DELETE site p (meaning L d)
+
+  -- ---- from an opened desk, after any calls in any order: an accepted opening, then calls with any arguments, accepted or refused
+  pub data Reached : D → Type 0 where
+    opened : (d : D) → openRefusal L d ≡ 0 → Reached (openDesk L d .desk)
+    called : {d : D} → Reached d → (c : Call) → Reached (step L d c .desk)
+
+  -- ---- no other site holds the pointer and no message in flight names it; no counter is asked
+  pub record Quiet (d : D) (p : ℕ) : Type 0 where
+    pub no-holder : (s : ℕ) → s < sites d → s ≢ owner d p → cell d s p ≡ 0
+    pub no-message : (slot : ℕ) → slot < slots d → names p (message d slot) ≡ false
