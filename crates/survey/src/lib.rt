@@ -1,0 +1,3 @@
+// Share and sheet: the messages in flight for one pointer, counted (Document 01, Share and sheet).
+pub mod entry;
+pub mod weight;
