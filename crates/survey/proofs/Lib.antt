@@ -1,2 +1,7 @@
 -- What the proofs of the functions cite, and what is true of shares and sheets.
+pub mod NumberLaws
+pub mod CountLaws
 pub mod SignedLaws
+pub mod AnswerLaws
+pub mod ShareRange
+pub mod NegativeShare
