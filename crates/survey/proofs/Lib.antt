@@ -4,4 +4,8 @@ pub mod CountLaws
 pub mod SignedLaws
 pub mod AnswerLaws
 pub mod ShareRange
+pub mod GridLaws
+pub mod SheetLaws
+pub mod SheetColumns
 pub mod NegativeShare
+pub mod NoTwoAnswers

@@ -3,4 +3,5 @@ pub mod entry;
 mod front;
 mod place;
 pub mod share;
+pub mod sheet;
 pub mod weight;
