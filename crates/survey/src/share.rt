@@ -1,10 +1,10 @@
 // The share of a site (Document 01, Share and sheet).
-use crate::front::front;
-use crate::place::place_of;
 use crate::weight::balance;
 use crate::weight::minus;
 use crate::weight::plus;
 use model::Share;
+use tables::front::front;
+use tables::place::place_of;
 use tables::pool::read_slot;
 ghost use mathlib.Core.Path.{_≡_};
 ghost use Prim.Native.Nat.{_+_, _≤_};

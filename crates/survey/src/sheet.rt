@@ -2,7 +2,7 @@
 use crate::entry::amount;
 use crate::entry::column;
 use crate::entry::row;
-use crate::front::front;
+use tables::front::front;
 use tables::pool::read_slot;
 ghost use mathlib.Core.Path.{_≡_};
 ghost use Prim.Native.Nat.{ℕ, _≤_, _<_};

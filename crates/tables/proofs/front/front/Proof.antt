@@ -5,8 +5,8 @@ use Rattle.model.specs.Calls.{lentRefusal, front}
 use Rattle.model.specs.Tables.{lent}
 use Rattle.model.specs.Flat.{flat}
 use Rattle.model.proofs.TestLaws.{or-else-first}
-use Rattle.survey.proofs.front.front.Statement.{statement}
-use Rattle.survey.proofs.front.front.Tie as tie
+use Rattle.tables.proofs.front.front.Statement.{statement}
+use Rattle.tables.proofs.front.front.Tie as tie
 
 -- 1 and 2 are not given
 passed : (c : tie.Else1) → let a = c .before .before .before .before .before .before .args in

@@ -3,8 +3,8 @@ use Prim.Native.Nat.{_*_, _≤_}
 use native.Mathlib.Nat.{mul-le-mul}
 use native.Mathlib.Omega.{arith}
 use borrow.Author.Needs.{needs}
-use Rattle.survey.proofs.place.place_of.Statement.{statement}
-use Rattle.survey.proofs.place.place_of.Tie as tie
+use Rattle.tables.proofs.place.place_of.Statement.{statement}
+use Rattle.tables.proofs.place.place_of.Tie as tie
 
 row-start : (c : tie.Start) → c .args .site * c .args .g ≤ 255 * 256
 row-start c = let byte : c .args .site ≤ 255 = omega arith in mul-le-mul byte (c .pre)
