@@ -3,3 +3,4 @@ pub mod NextLaws
 pub mod TurnLaws
 pub mod OpeningLaws
 pub mod BegunLaws
+pub mod Whole

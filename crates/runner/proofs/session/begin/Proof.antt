@@ -1,15 +1,18 @@
 -- `begin` meets its promise: the first line opens or is turned down.
-use Prim.Native.Nat.{_+_, _*_, _≤_, _<_}
+use Prim.Native.Nat.{ℕ, _-_, _≤_, _<_}
 use mathlib.Core.Path.{_≡_, sym, ap, _∙_}
+use mathlib.Core.List.{List}
 use native.Mathlib.Omega.{arith}
 use borrow.Author.Needs.{needs}
 use lib.ListN.{length, take, drop, length-drop}
-use lib.Seq.{sets, length-take-le}
+use lib.Seq.{sets, length-take-le, take-all}
 use Rattle.model.specs.declared.Answer.{Answer}
 use Rattle.model.specs.Answers.{refused, Outcome}
+use Rattle.model.specs.Calls.{openDesk}
 use Rattle.model.specs.Tables.{Desk}
+use Rattle.model.specs.Flat.{flat}
 use Rattle.model.specs.Lines.{linesOf}
-use Rattle.model.specs.Transcript.{answerLine, begun, opening, session}
+use Rattle.model.specs.Transcript.{answerLine, ownersIn, fresh, begun, opening, session}
 use Rattle.lines.proofs.PlaceLaws.{end-most}
 use Rattle.runner.specs.Run.{written}
 use Rattle.runner.specs.Opened.{numberIn}
@@ -34,6 +37,10 @@ past c = past-first (start c .args .input .now) (start c .pre .0) (c .past-at .e
 first : (c : tie.After-past-at) → let t = start c .args .input .now in
     begun (opening (take (c .before .line-end .result) t)) (linesOf (drop (c .past-at .result) t)) ≡ session (linesOf t)
 first c = begins (start c .args .input .now) (start c .pre .0) (c .before .line-end .ensures) (c .past-at .ensures)
+
+-- what follows the first line, as the code cuts it
+rest-whole : (c : tie.After-past-at) → let t = start c .args .input .now in take (length t - c .past-at .result) (drop (c .past-at .result) t) ≡ drop (c .past-at .result) t
+rest-whole c = let t = start c .args .input .now in take-all (length t - c .past-at .result) (drop (c .past-at .result) t) (omega (arith, length-drop (c .past-at .result) t))
 
 line-end-requires : tie.Need-line-end-requires
 line-end-requires c κs = search needs
@@ -82,7 +89,7 @@ sub-with-tables : tie.Need-sub-with-tables
 sub-with-tables c = past (c .before .before .before .before .before .before) .1
 
 part-with-tables-start : tie.Need-part-with-tables-start
-part-with-tables-start c = ?
+part-with-tables-start c = past (c .before .before .before .before .before .before) .1
 
 part-with-tables-end : tie.Need-part-with-tables-end
 part-with-tables-end c = search needs
@@ -99,13 +106,17 @@ same-length-2 : tie.Need-same-length-2
 same-length-2 c = search needs
 
 returns-2 : tie.Need-returns-2
-returns-2 c = 
+returns-2 c =
     let k = c .before .before .before .before .before .before .before in
     let o = k .before .before in
     let p = o .before .before in
     let a = start p .args in
+    let line = take (p .before .line-end .result) (a .input .now) in
+    let asked = opens line (sym (o .read-opening .ensures) ∙ k .opening .given .1) in
     c .before .before .with-tables .ensures
-    ∙ ap (written (a .output .now)) (ap (λ (x : Outcome Desk). begun x (linesOf (drop (p .past-at .result) (a .input .now)))) (opens-fresh (take (p .before .line-end .result) (a .input .now)) (opens (take (p .before .line-end .result) (a .input .now)) (sym (o .read-opening .ensures) ∙ k .opening .given .1))) ∙ first p)
+    ∙ ap (λ (rest : List ℕ). written (a .output .now) (begun (openDesk flat (fresh (k .opening .given .0 .0) (ownersIn line) (k .opening .given .0 .1 .0))) (linesOf rest))) (rest-whole p)
+    ∙ ap (λ (x : Outcome Desk). written (a .output .now) (begun x (linesOf (drop (p .past-at .result) (a .input .now))))) (opens-fresh line asked)
+    ∙ ap (written (a .output .now)) (first p)
 
 pub begin-spec : {M : Type 1} → statement M
 begin-spec =
