@@ -51,7 +51,15 @@ short-by : (t : Bool) (input output : List ℕ) → ltb (length output) room ≡
 short-by true input output e = omega arith
 short-by false input output e = omega (arith, ltb-false (length output) room e, transcript-fits input)
 
--- the count is within the output
+most-by : (t : Bool) (input : List ℕ) → length (cond t [] (transcript input)) ≤ room
+most-by true input = omega arith
+most-by false input = transcript-fits input
+
+-- the count is at most 139,264, and within the output
+pub count-most : (input output : List ℕ) {w : Written} → w ≡ run input output → w .count ≤ room
+unfolding run
+count-most input output e = rw e (most-by (ltb (length output) room) input)
+
 pub count-within : (input output : List ℕ) {w : Written} → w ≡ run input output → w .count ≤ length output
 unfolding run
 count-within input output e = rw e (short-by (ltb (length output) room) input output refl)
