@@ -13,7 +13,7 @@ use Rattle.runner.proofs.run.Statement.{statement}
 use Rattle.runner.proofs.run.Tie as tie
 
 returns : tie.Need-returns
-returns c = let a = c .before .before .before .args in no-room (a .input .now) (a .output .now) (c .if1 .taken)
+returns c = let a = c .before .before .before .args in no-room (a .input .now) (a .output .now) (omega (arith, c .if1 .taken))
 
 refused-requires : tie.Need-refused-requires
 refused-requires c κs = search needs
@@ -25,16 +25,16 @@ same-length : tie.Need-same-length
 same-length c = search needs
 
 returns-2 : tie.Need-returns-2
-returns-2 c = 
+returns-2 c =
     let long = c .before .before .before .before .before in
     let a = long .before .before .before .before .args in
-    too-long (a .input .now) (a .output .now) (long .before .if1 .left) (long .if2 .taken)
+    too-long (a .input .now) (a .output .now) (long .before .if1 .left) (omega (arith, long .if2 .taken))
     (one-line (a .output .now) (refused 17) (c .before .before .put-answer .ensures ∙ ap (λ (r : Answer). sets (a .output .now) 0 (answerLine r)) (c .before .before .before .refused .ensures)))
 
 returns-3 : tie.Need-returns-3
-returns-3 c = 
+returns-3 c =
     let a = c .before .before .before .before .before .args in
-    whole-session (a .input .now) (a .output .now) (c .before .before .if1 .left) (c .before .if2 .left) (ap (written (a .output .now)) (no-session (a .input .now) (c .if3 .taken)))
+    whole-session (a .input .now) (a .output .now) (c .before .before .if1 .left) (omega (arith, c .if3 .taken)) (ap (written (a .output .now)) (no-session (a .input .now) (c .if3 .taken)))
 
 begin-requires : tie.Need-begin-requires
 begin-requires c κs = search needs
@@ -43,7 +43,7 @@ same-length-2 : tie.Need-same-length-2
 same-length-2 c = search needs
 
 returns-4 : tie.Need-returns-4
-returns-4 c = 
+returns-4 c =
     let some = c .before .before .before .before in
     let a = some .before .before .before .before .before .args in
     whole-session (a .input .now) (a .output .now) (some .before .before .if1 .left) (some .before .if2 .left) (c .before .before .begin .ensures)

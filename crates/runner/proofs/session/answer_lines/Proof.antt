@@ -59,7 +59,7 @@ refused-requires : tie.Need-refused-requires Inv-loop μ-loop
 refused-requires c κs = search needs
 
 put-answer-requires : tie.Need-put-answer-requires Inv-loop μ-loop
-put-answer-requires c κs = fits (c .before .before .before .before .before .before)
+put-answer-requires c κs = omega (arith, fits (c .before .before .before .before .before .before))
 
 add-end : tie.Need-add-end Inv-loop μ-loop
 add-end c = let n = c .before .before .before .before .before .before .before .before .before in omega (arith, fits n, n .before .before .before .loop .inv .3 .long, start (n .before .before .before) .good)
@@ -85,7 +85,7 @@ step-requires : tie.Need-step-requires Inv-loop μ-loop
 step-requires c κs = search needs
 
 put-answer-requires-2 : tie.Need-put-answer-requires-2 Inv-loop μ-loop
-put-answer-requires-2 c κs = fits (c .before .before .before .before .before .before .before .before .before .before .before .before .before .before .before)
+put-answer-requires-2 c κs = omega (arith, fits (c .before .before .before .before .before .before .before .before .before .before .before .before .before .before .before))
 
 add-end-2 : tie.Need-add-end-2 Inv-loop μ-loop
 add-end-2 c = let n = c .before .before .before .before .before .before .before .before .before .before .before .before .before .before .before .before .before .before in omega (arith, fits n, n .before .before .before .loop .inv .3 .long, start (n .before .before .before) .good)

@@ -73,7 +73,7 @@ same-length : tie.Need-same-length
 same-length c = search needs
 
 returns : tie.Need-returns
-returns c = 
+returns c =
     let told = c .before .before .before .before .before .before in
     let o = told .before .before in
     let p = o .before .before in
@@ -86,16 +86,16 @@ slice-aggregate-with-tables : tie.Need-slice-aggregate-with-tables
 slice-aggregate-with-tables c = line-long (c .before .before .before .before .before .before)
 
 sub-with-tables : tie.Need-sub-with-tables
-sub-with-tables c = past (c .before .before .before .before .before .before) .1
+sub-with-tables c = let p = c .before .before .before .before .before .before in omega (arith, within p, past p)
 
 part-with-tables-start : tie.Need-part-with-tables-start
-part-with-tables-start c = past (c .before .before .before .before .before .before) .1
+part-with-tables-start c = let p = c .before .before .before .before .before .before in omega (arith, within p, past p)
 
 part-with-tables-end : tie.Need-part-with-tables-end
 part-with-tables-end c = search needs
 
 with-tables-requires : tie.Need-with-tables-requires
-with-tables-requires c κs = 
+with-tables-requires c κs =
     let k = c .before .before .before .before in
     let o = k .before .before in
     let p = o .before .before in
