@@ -3,8 +3,8 @@ use crate::session::begin;
 use lines::write::put_answer;
 use tables::answer::refused;
 
-pub mod opening;
-pub mod session;
+mod opening;
+mod session;
 
 ghost use mathlib.Core.Path.{_≡_};
 ghost use Rattle.runner.specs.Run.{run as runOf};
