@@ -1,0 +1,157 @@
+-- `answer_lines` meets its promise: each turn reads one line and writes its answer line, refused or not.
+use Prim.Native.Nat.{_+_, _-_, _≤_, _<_}
+use mathlib.Core.Path.{_≡_, refl, sym, _∙_}
+use native.Mathlib.Omega.{arith}
+use lib.ListN.{length, drop}
+use borrow.Author.Needs.{needs}
+use Rattle.model.specs.Tables.{Desk, lent}
+use Rattle.model.specs.Lines.{linesOf, lineAt}
+use Rattle.model.specs.Transcript.{answers}
+use Rattle.lines.proofs.PlaceLaws.{past-later}
+use Rattle.runner.proofs.NextLaws.{line-said, ended-said}
+use Rattle.runner.proofs.TurnLaws.{Left, all-left, turn, none-left, refused-line, said-line}
+use Rattle.runner.proofs.session.answer_lines.Statement.{statement}
+use Rattle.runner.proofs.session.answer_lines.Tie as tie
+
+abbrev Inv-loop : tie.InvT-loop
+Inv-loop text s owners send₀ receive₀ pool₀ output₀ at₀ end₀ send receive pool output at end =
+    (length send ≡ length send₀) × (length receive ≡ length receive₀) × (length pool ≡ length pool₀)
+    × Left (answers (lent s owners send₀ receive₀ pool₀) (linesOf text)) output₀ (lent s owners send receive pool) text at output end
+
+abbrev μ-loop : tie.MeasureT-loop
+μ-loop text s owners send₀ receive₀ pool₀ output₀ at₀ end₀ send receive pool output at end = length text - at
+
+abbrev start : tie.At-loop Inv-loop μ-loop → tie.Start Inv-loop μ-loop
+start c = c .before .before .before .before .before .before .before
+
+abbrev desk : tie.At-loop Inv-loop μ-loop → Desk
+desk c = let a = start c .args in lent (a .s) (a .owners .now) (c .loop .send) (c .loop .receive) (c .loop .pool)
+
+-- a line starts there, and its answer line fits
+there : (c : tie.After-next Inv-loop μ-loop) → let m = c .before .before .before in m .loop .at < length (start m .args .text .now)
+there c = let m = c .before .before .before in line-said (start m .args .text .now) (m .loop .at) (sym (c .before .before .next-at .ensures) ∙ c .next .given .1) .0
+
+fits : (c : tie.After-next Inv-loop μ-loop) → let m = c .before .before .before in m .loop .end + 17 ≤ length (m .loop .output)
+fits c = let m = c .before .before .before in omega (arith, there c, m .loop .inv .3 .fits, m .loop .inv .3 .long, start m .pre)
+
+loop-holds : tie.Need-loop-holds Inv-loop μ-loop
+loop-holds c = (refl, refl, refl, all-left _ _ _)
+
+next-at-requires : tie.Need-next-at-requires Inv-loop μ-loop
+next-at-requires c κs = search needs
+
+enum-known-next : tie.Need-enum-known-next Inv-loop μ-loop
+enum-known-next c = search needs
+
+enum-told : tie.Need-enum-told Inv-loop μ-loop
+enum-told c = search needs
+
+enum-known-read : tie.Need-enum-known-read Inv-loop μ-loop
+enum-known-read c = search needs
+
+enum-told-2 : tie.Need-enum-told-2 Inv-loop μ-loop
+enum-told-2 c = search needs
+
+refusal-in-requires : tie.Need-refusal-in-requires Inv-loop μ-loop
+refusal-in-requires c κs = search needs
+
+refused-requires : tie.Need-refused-requires Inv-loop μ-loop
+refused-requires c κs = search needs
+
+put-answer-requires : tie.Need-put-answer-requires Inv-loop μ-loop
+put-answer-requires c κs = omega (arith, fits (c .before .before .before .before .before .before))
+
+add-end : tie.Need-add-end Inv-loop μ-loop
+add-end c = let n = c .before .before .before .before .before .before .before .before .before in omega (arith, fits n, n .before .before .before .loop .inv .3 .long, start (n .before .before .before) .good)
+
+loop-less : tie.Need-loop-less Inv-loop μ-loop
+loop-less c =
+    let n = c .before .before .before .before .before .before .before .before .before in
+    let m = n .before .before .before in
+    let f = line-said (start m .args .text .now) (m .loop .at) (sym (n .before .before .next-at .ensures) ∙ n .next .given .1) in
+    omega (arith, f .0, f .2, past-later (start m .args .text .now) (m .loop .at) (f .0))
+
+loop-again : tie.Need-loop-again Inv-loop μ-loop
+loop-again c =
+    let refusal = c .before .before .before .before in
+    let next = refusal .before .before .before .before .before in
+    let m = next .before .before .before in
+    let a = start m .args in
+    let f = line-said (a .text .now) (m .loop .at) (sym (next .before .before .next-at .ensures) ∙ next .next .given .1) in
+    let o = refused-line (desk m) (lineAt (a .text .now) (m .loop .at)) (f .1) (refusal .before .before .enum-told2 .given .1) (refusal .refusal-in .ensures) (c .before .before .before .refused .ensures) in
+    (m .loop .inv .0, m .loop .inv .1, m .loop .inv .2, turn (desk m) (a .text .now) (m .loop .at) _ (m .loop .output) _ (m .loop .end) _ (f .0) (f .2) o (c .before .before .put-answer .ensures) (m .loop .inv .3))
+
+step-requires : tie.Need-step-requires Inv-loop μ-loop
+step-requires c κs = search needs
+
+put-answer-requires-2 : tie.Need-put-answer-requires-2 Inv-loop μ-loop
+put-answer-requires-2 c κs = omega (arith, fits (c .before .before .before .before .before .before .before .before .before .before .before .before .before .before .before))
+
+add-end-2 : tie.Need-add-end-2 Inv-loop μ-loop
+add-end-2 c = let n = c .before .before .before .before .before .before .before .before .before .before .before .before .before .before .before .before .before .before in omega (arith, fits n, n .before .before .before .loop .inv .3 .long, start (n .before .before .before) .good)
+
+loop-less-2 : tie.Need-loop-less-2 Inv-loop μ-loop
+loop-less-2 c =
+    let n = c .before .before .before .before .before .before .before .before .before .before .before .before .before .before .before .before .before .before in
+    let m = n .before .before .before in
+    let f = line-said (start m .args .text .now) (m .loop .at) (sym (n .before .before .next-at .ensures) ∙ n .next .given .1) in
+    omega (arith, f .0, f .2, past-later (start m .args .text .now) (m .loop .at) (f .0))
+
+loop-again-2 : tie.Need-loop-again-2 Inv-loop μ-loop
+loop-again-2 c =
+    let call = c .before .before .before .before .before .before .before .before .before .before in
+    let read = call .before .before .before .before .before in
+    let next = read .before .before .before in
+    let m = next .before .before .before in
+    let a = start m .args in
+    let k = call .step .kept .1 .1 in
+    let f = line-said (a .text .now) (m .loop .at) (sym (next .before .before .next-at .ensures) ∙ next .next .given .1) in
+    let o = said-line (desk m) (lineAt (a .text .now) (m .loop .at)) (f .1) (read .read .given .1) (call .step .ensures) in
+    (k .0 ∙ m .loop .inv .0, k .1 .0 ∙ m .loop .inv .1, k .1 .1 .0 ∙ m .loop .inv .2, turn (desk m) (a .text .now) (m .loop .at) _ (m .loop .output) _ (m .loop .end) _ (f .0) (f .2) o (c .before .before .put-answer2 .ensures) (m .loop .inv .3))
+
+same-length : tie.Need-same-length Inv-loop μ-loop
+same-length c = c .before .before .before .loop .inv .0
+
+same-length-2 : tie.Need-same-length-2 Inv-loop μ-loop
+same-length-2 c = c .before .before .before .loop .inv .1
+
+same-length-3 : tie.Need-same-length-3 Inv-loop μ-loop
+same-length-3 c = c .before .before .before .loop .inv .2
+
+same-length-4 : tie.Need-same-length-4 Inv-loop μ-loop
+same-length-4 c = c .before .before .before .loop .inv .3 .long
+
+returns : tie.Need-returns Inv-loop μ-loop
+returns c =
+    let m = c .before .before .before in
+    none-left (desk m) (start m .args .text .now) (m .loop .at) (m .loop .output) (m .loop .end)
+    (ended-said (start m .args .text .now) (m .loop .at) (sym (c .before .before .next-at .ensures) ∙ c .enum-told .given .1)) (m .loop .inv .3)
+
+pub answer-lines-spec : {M : Type 1} → statement M
+answer-lines-spec =
+    tie.close
+    (tie.spec
+    Inv-loop
+    μ-loop
+    loop-holds
+    next-at-requires
+    enum-known-next
+    enum-told
+    enum-known-read
+    enum-told-2
+    refusal-in-requires
+    refused-requires
+    put-answer-requires
+    add-end
+    loop-less
+    loop-again
+    step-requires
+    put-answer-requires-2
+    add-end-2
+    loop-less-2
+    loop-again-2
+    same-length
+    same-length-2
+    same-length-3
+    same-length-4
+    returns)
