@@ -2,3 +2,5 @@
 pub mod BoundaryLaws
 pub mod SheetLaws
 pub mod EntryLaws
+-- A theorem for a reader.
+pub mod Handed
