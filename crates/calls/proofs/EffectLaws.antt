@@ -1,7 +1,7 @@
 -- Make copy, delete and ask: what their own tests leave, and what an accepted call leaves.
 use Prim.Native.Nat.{ℕ, _+_, _*_, _<_}
-use mathlib.Core.Path.{_≡_}
-use mathlib.Core.Bool.{_&&_, not}
+use mathlib.Core.Path.{_≡_, refl}
+use mathlib.Core.Bool.{Bool, true, false, _&&_, not}
 use mathlib.Core.List.{List}
 use lib.Dec.{eqb, leb}
 use lib.ListN.{length, getD, set}
@@ -10,16 +10,23 @@ use mir.Val.{boolByte}
 use borrow.Author.Tests.{eqb-false, leb-false}
 use Rattle.model.specs.declared.Answer.{Answer}
 use Rattle.model.specs.declared.Posted.the-variants.{Copy, Dec, Nothing}
-use Rattle.model.specs.Refusals.{SameSite, NotHeld, CounterFull, PoolFull, IsOwner, StillCounted, _when_}
+use Rattle.model.specs.Refusals.{SameSite, NotHeld, CounterFull, PoolFull, IsOwner, StillCounted, _when_, _orElse_}
 use Rattle.model.specs.Messages.{slotOf}
 use Rattle.model.specs.Answers.{accepted}
 use Rattle.model.specs.Calls.{copyRefusal, deleteRefusal, lowestEmpty, copied, deleted, asked}
 use Rattle.model.specs.Tables.{Desk, lent}
 use Rattle.model.specs.Flat.{flat, place}
-use Rattle.model.proofs.TestLaws.{when-not}
-use Rattle.calls.proofs.OrderLaws.{four-none, test-as-byte}
+use Rattle.model.proofs.TestLaws.{when-not, or-else-none}
 
 -- ---- the tests
+-- an order of four that gives 0: none of them gives a number
+four-none : (k l m n : ℕ) → k orElse l orElse m orElse n ≡ 0 → (k ≡ 0) × (l ≡ 0) × (m ≡ 0) × (n ≡ 0)
+four-none k l m n e =
+    let e1 = or-else-none k (l orElse m orElse n) e in
+    let e2 = or-else-none l (m orElse n) (e1 .1) in
+    let e3 = or-else-none m n (e2 .1) in
+    (e1 .0, e2 .0, e3 .0, e3 .1)
+
 -- a copy that is not turned down: the counter can rise, and a slot is empty
 pub copy-clear : (from to owner cell counter slot slots : ℕ) → copyRefusal from to owner cell counter slot slots ≡ 0 → (counter ≡ 65535 → ⊥) × (slot < slots)
 unfolding copyRefusal
@@ -51,6 +58,11 @@ module _ (d : Desk) (s p : ℕ) {at slot : ℕ} (ea : at ≡ place (length (d .o
       → record { answer = r; desk = lent (d .S) (d .owners) (d .send) (set (d .receive) at 0) pool′ } ≡ deleted flat d s p
   unfolding deleted
   deleted-as er ep = rw (er, ep, ea, es)
+
+-- a test as a byte is 1 where it holds
+test-as-byte : (b : Bool) → boolByte b ≡ 1 when b
+test-as-byte true = refl
+test-as-byte false = refl
 
 -- what ask answers
 pub asked-as : (d : Desk) (p : ℕ) {at : ℕ} {r : Answer} → at ≡ place (length (d .owners)) (getD (d .owners) p 0) p

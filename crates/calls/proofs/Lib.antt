@@ -1,5 +1,4 @@
 -- What the proofs of the functions cite.
-pub mod OrderLaws
 pub mod FrontLaws
 pub mod EffectLaws
 pub mod ReceiveLaws

@@ -9,25 +9,17 @@ use lib.Seq.{sets}
 use borrow.Author.Tests.{ltb-true}
 use Rattle.model.specs.declared.Answer.{Answer}
 use Rattle.model.specs.declared.Posted.{Posted}
-use Rattle.model.specs.declared.Posted.the-variants.{Copy, Dec, IncDec, Nothing}
 use Rattle.model.specs.Refusals.{EmptySlot, _when_, _orElse_}
-use Rattle.model.specs.Messages.{slotOf, isNothing, receiver, pointerOf, receiveRefusal, counterAfter, cellAfter, reply}
+use Rattle.model.specs.Messages.{slotOf, receiver, pointerOf, receiveRefusal, counterAfter, cellAfter, reply}
 use Rattle.model.specs.Answers.{accepted, unless}
 use Rattle.model.specs.Calls.{lentRefusal, front, counterThere, receiveNumber, received, receive}
-use Rattle.model.specs.Laws.{Inside}
 use Rattle.model.specs.Tables.{Desk, lent, slotsOf, emptyAt, messageAt}
 use Rattle.model.specs.Flat.{flat, place, heldRefusal}
-use Rattle.model.proofs.TestLaws.{true-not-false, when-not, or-else-none}
+use Rattle.model.proofs.TestLaws.{when-not, or-else-none}
+use Rattle.model.proofs.RowLaws.{or-else-assoc}
+use Rattle.model.proofs.ReplyLaws.{inside-there}
 use Rattle.model.proofs.FlatLaws.{flat-laws}
-use Rattle.calls.proofs.OrderLaws.{or-else-assoc}
 use Rattle.calls.proofs.FrontLaws.{front-passed, Ready, ready}
-
--- a message's receiver and pointer are in range
-message-names : (S G : ℕ) (m : Posted) → Inside S G m → isNothing m ≡ false → (receiver m < S) × (pointerOf m < G)
-message-names S G (Copy a b p) w e = (w .1, w .2)
-message-names S G (Dec a b p) w e = (w .1, w .2)
-message-names S G (IncDec a b c p) w e = (w .1, w .3)
-message-names S G Nothing w e = true-not-false e
 
 module _ (d : Desk) (slot : ℕ) where
   -- 1, 2, 3, 8; then 9 and the message's own
@@ -60,7 +52,7 @@ module _ (d : Desk) (slot : ℕ) where
     pub ready-message : {m : Posted} {b p : ℕ} → m ≡ messageAt (d .pool) slot → b ≡ receiver m → p ≡ pointerOf m → Ready d b p
     ready-message {m} {b} {p} em eb ep =
         let f = slot-full in
-        let n = message-names (d .S) (length (d .owners)) (messageAt (d .pool) slot) (flat-laws .inside d (f .good) slot (f .in-pool)) (sym (flat-laws .empties d (f .good) slot (f .in-pool)) ∙ f .full) in
+        let n = inside-there (d .S) (length (d .owners)) (messageAt (d .pool) slot) (sym (flat-laws .empties d (f .good) slot (f .in-pool)) ∙ f .full) (flat-laws .inside d (f .good) slot (f .in-pool)) in
         ready d b p (f .good) (rw (eb, em) (n .0)) (rw (ep, em) (n .1))
 
   -- ---- the desk, of the code's message, receiver, pointer and place

@@ -1,10 +1,10 @@
 // Ask (Document 01, The calls).
-use crate::front::front;
-use crate::place::place_of;
 use model::Answer;
 use model::Posted;
 use tables::answer::accepted;
 use tables::answer::refused;
+use tables::front::front;
+use tables::place::place_of;
 ghost use mathlib.Core.Path.{_≡_};
 ghost use Rattle.model.specs.Tables.{lent};
 ghost use Rattle.model.specs.Calls.{ask as askOf};

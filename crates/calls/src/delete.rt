@@ -1,11 +1,11 @@
 // Delete (Document 01, The calls).
-use crate::front::front;
-use crate::place::place_of;
 use crate::refusal::delete_refusal;
 use model::Answer;
 use model::Posted;
 use tables::answer::accepted;
 use tables::answer::refused;
+use tables::front::front;
+use tables::place::place_of;
 use tables::pool::lowest_empty;
 use tables::pool::write_slot;
 ghost use mathlib.Core.Path.{_≡_};

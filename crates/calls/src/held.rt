@@ -24,7 +24,7 @@ fn held(pool: &[u8], a: u8, b: u8, p: u8) -> bool
     false
 }
 
-// 9 for a DEC that an INC_DEC of its own holds back; only a DEC is looked for.
+// 9 for a DEC that an INC_DEC from its sender to its receiver holds back; for no other kind is the pool scanned.
 pub fn held_refusal(pool: &[u8], m: Posted) -> u8
     ensures { λ r. ⌜ r ≡ heldRefusal (slotsOf (now (pool .entry))) (messageAt (now (pool .entry))) m ⌝ }
 {

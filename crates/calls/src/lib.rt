@@ -5,6 +5,5 @@ pub mod delete;
 pub mod front;
 pub mod held;
 pub mod message;
-pub mod place;
 pub mod receive;
 pub mod refusal;

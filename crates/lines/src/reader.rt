@@ -73,7 +73,7 @@ impl<'a> Reader<'a> {
         Reader { text, at: 0 }
     }
 
-    // What it answers where it stands.
+    // What it answers where it stands; it does not move.
     pub fn next(self) -> Next
         ensures { λ r. ⌜ r ≡ answerOf (self .entry) ⌝ }
     {

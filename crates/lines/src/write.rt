@@ -3,12 +3,13 @@ use crate::digit::digit_of;
 use model::Answer;
 use model::Call;
 use model::Posted;
+use tables::answer::accepted;
+use tables::answer::refused;
 ghost use mathlib.Core.Path.{_≡_};
 ghost use mathlib.Core.List.{[], _∷_, _++_};
 ghost use Prim.Native.Nat.{_+_, _*_, _≤_};
 ghost use lib.ListN.{length};
 ghost use lib.Seq.{sets};
-ghost use Rattle.model.specs.Answers.{refused};
 ghost use Rattle.model.specs.Lines.{newline, digitsOf, bytesOf, writeCall};
 ghost use Rattle.model.specs.Transcript.{answerBytes, answerLine};
 
@@ -84,25 +85,14 @@ fn bytes_of(call: Call) -> [u8; 4]
     }
 }
 
-// The writer's answer: a number, value 0 and no message.
-fn numbered(number: u8) -> Answer
-    ensures { λ r. ⌜ r ≡ refused number ⌝ }
-{
-    Answer {
-        number,
-        value: 0,
-        posted: Posted::Nothing,
-    }
-}
-
 // The line of a call, eight digits and a newline, at the start of a text; 1 where the text is too short.
 pub fn write_call(text: &mut [u8], call: Call) -> Answer
     ensures { λ r. ⌜ record { answer = r; desk = now (text .exit) } ≡ writeCall (now (text .entry)) call ⌝ }
 {
     if text.len() < 9 {
-        return numbered(1);
+        return refused(1);
     }
     let bytes = bytes_of(call);
     write_line(text, 0, &bytes);
-    numbered(0)
+    accepted(0, Posted::Nothing)
 }

@@ -2,13 +2,15 @@
 use Prim.Native.Nat.{ℕ, zero, suc, _<_}
 use mathlib.Core.Path.{_≡_, refl, sym, ap, subst}
 use native.Mathlib.Omega.{arith}
+use lib.Dec.{eqb}
 use Rattle.moreau.specs.Transitions.{Guard, PaperGuard}
 use Rattle.model.specs.declared.Posted.{Posted}
-use Rattle.model.specs.declared.Posted.the-variants.{Dec as Decr}
+use Rattle.model.specs.declared.Posted.the-variants.{Copy, Dec as Decr, Nothing}
 use Rattle.model.specs.declared.Call.the-variants.{MakeCopy, Receive, Delete, Ask}
-use Rattle.model.specs.Answers.{Outcome, unless}
+use Rattle.model.specs.Refusals.{_when_}
+use Rattle.model.specs.Answers.{accepted, Outcome, unless}
 use Rattle.model.specs.Layout.{Layout}
-use Rattle.model.specs.Calls.{copyNumber, copied, makeCopy, receiveNumber, received, receive, deleteNumber, deleted, delete, step}
+use Rattle.model.specs.Calls.{lowestEmpty, copyNumber, copied, makeCopy, replied, receiveNumber, received, receive, deleteNumber, deleted, delete, askNumber, asked, ask, step}
 use Rattle.model.specs.Laws.{Laws}
 use Rattle.model.specs.Flat.{heldRefusal}
 use Rattle.model.specs.Meaning.{meaning}
@@ -44,3 +46,29 @@ module _ {D : Type 0} (L : Layout D) (W : Laws L) where
       → (d : D) (slot : ℕ) → step L d (Receive slot) .answer .number ≡ 0 → Receives L PaperGuard d (step L d (Receive slot) .desk) slot
   receive-transition-held held d slot =
       receive-transition PaperGuard d slot (λ a b p l m e. held-is-the-guard L d a b p (subst (λ x. heldRefusal (L .slots d) (L .message d) x ≡ 0) m (subst (λ n. n ≡ 0) (held d slot) e)))
+
+-- ---- the answer of an accepted call, over any layout, lawful or not
+-- what holds of the answer of a call whose tests give 0 holds of its answer, where its number is 0
+answered-as : {D : Type 0} (n : ℕ) (d : D) (o : Outcome D) → unless n d o .answer .number ≡ 0 → unless n d o .answer ≡ o .answer
+answered-as zero d o e = refl
+answered-as (suc n) d o e = absurd (omega arith)
+
+module _ {D : Type 0} (L : Layout D) where
+  -- Make copy and delete: the value is the lowest empty slot, the message is the one that is posted.
+  pub copy-answer : (d : D) (from to p : ℕ) → step L d (MakeCopy from to p) .answer .number ≡ 0 → step L d (MakeCopy from to p) .answer ≡ accepted (lowestEmpty L d) (Copy from to p)
+  unfolding step makeCopy copied
+  copy-answer d from to p = answered-as (copyNumber L d from to p) d (copied L d from to p)
+
+  pub delete-answer : (d : D) (site p : ℕ) → step L d (Delete site p) .answer .number ≡ 0 → step L d (Delete site p) .answer ≡ accepted (lowestEmpty L d) (Decr site (L .owner d p) p)
+  unfolding step delete deleted
+  delete-answer d site p = answered-as (deleteNumber L d site p) d (deleted L d site p)
+
+  -- Receive: the value is the slot, the message is the reply.
+  pub receive-answer : (d : D) (slot : ℕ) → step L d (Receive slot) .answer .number ≡ 0 → step L d (Receive slot) .answer ≡ accepted slot (replied L d slot)
+  unfolding step receive received
+  receive-answer d slot = answered-as (receiveNumber L d slot) d (received L d slot)
+
+  -- Ask: the value is 1 where the owner's counter is 0, else 0, and there is no message.
+  pub ask-answer : (d : D) (site p : ℕ) → step L d (Ask site p) .answer .number ≡ 0 → step L d (Ask site p) .answer ≡ accepted (1 when eqb (L .counter d (L .owner d p) p) 0) Nothing
+  unfolding step ask asked
+  ask-answer d site p = answered-as (askNumber L d site p) d (asked L d p)

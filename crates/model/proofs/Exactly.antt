@@ -1,7 +1,7 @@
 -- Each refusal number is given exactly where document 01 says so.
 use Prim.Native.Nat.{ℕ, zero, suc, _≤_}
-use mathlib.Core.Path.{_≡_, refl, ap, _∙_}
-use mathlib.Core.Logic.{_≢_}
+use mathlib.Core.Path.{_≡_, refl, sym, ap, _∙_}
+use mathlib.Core.Logic.{_≢_, inl, inr}
 use mathlib.Core.Bool.{Bool, true, false, not}
 use mathlib.Core.List.{List, [], _∷_}
 use lib.Dec.{leb, eqb}
@@ -24,6 +24,15 @@ use Rattle.model.proofs.RowLaws.{by-test, last-test, no-rows, or-else-a
 number-of-unless : {D : Type 0} (n : ℕ) (d : D) (o : Outcome D) → o .answer .number ≡ 0 → unless n d o .answer .number ≡ n
 number-of-unless zero d o e = e
 number-of-unless (suc n) d o e = refl
+
+-- No two numbers are the first of a table.
+pub one-number : (rows : List Row) (m n : ℕ) → FirstOf rows m → FirstOf rows n → m ≡ n
+unfolding FirstOf
+one-number [] m n f g = f ∙ sym g
+one-number (row ∷ rows) m n (inl f) (inl g) = f .1 ∙ sym (g .1)
+one-number (row ∷ rows) m n (inl f) (inr g) = absurd (g .0 (f .0))
+one-number (row ∷ rows) m n (inr f) (inl g) = absurd (f .0 (g .0))
+one-number (row ∷ rows) m n (inr f) (inr g) = one-number rows m n (f .1) (g .1)
 
 module _ {D : Type 0} (L : Layout D) where
   open Layout L using (sites, pointers, owner, counter, cell, slots, empty, message, shaped, owned, sound, early)

@@ -5,6 +5,7 @@ pub mod PlaceLaws
 pub mod SlotLaws
 pub mod ShapeLaws
 pub mod FlatLaws
+pub mod InWords
 pub mod RowLaws
 pub mod Exactly
 pub mod Demand1

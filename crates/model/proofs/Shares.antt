@@ -7,13 +7,14 @@ use native.Mathlib.Decide.{ℕ-discrete}
 use native.Mathlib.Omega.{arith}
 use lib.Dec.{eqb}
 use lib.IntN.{ℤ, pos, _+ℤ_, _-ℤ_, +ℤ-negℤ-cancel, pos-+ℤ-pos}
-use borrow.Author.Tests.{eq-eqb, ne-eqb}
+use borrow.Author.Tests.{eq-eqb, ne-eqb, lt-ltb}
 use Rattle.moreau.specs.Transitions.{Guard, WeakGuard, _implies_}
 use Rattle.moreau.specs.Counts.{_unless_is_, ∑, ∑other, X, Y}
 use Rattle.moreau.proofs.Counters.{share-never-negative, owner-counter-is-sum-of-shares}
 use Rattle.model.specs.Layout.{Layout}
+use Rattle.model.specs.Calls.{front}
 use Rattle.model.specs.Laws.{Laws}
-use Rattle.model.specs.Survey.{balance, sumℤ, sharePlus, shareMinus, shareOf, sharesOfOthers}
+use Rattle.model.specs.Survey.{balance, sumℤ, shareNumber, sharePlus, shareMinus, shareOf, sharesOfOthers, share}
 use Rattle.model.specs.Meaning.{configOf, meaning}
 use Rattle.model.specs.Demands.{Reached}
 use Rattle.model.proofs.KeptLaws.{sent}
@@ -52,6 +53,12 @@ module _ {D : Type 0} (L : Layout D) (W : Laws L) (May : Guard) (i : May implies
   -- From an opened desk no share is negative.
   pub share-is-not-negative : (s : ℕ) → s < sites d → s ≢ owner d p → shareOf L d s p ≡ pos (sharePlus L d s p - shareMinus L d s p)
   share-is-not-negative s ls apart = whole (sharePlus L d s p) (shareMinus L d s p) (below s ls apart)
+
+  -- The public question is accepted there, and answers that share.
+  pub share-answer : (s : ℕ) → s < sites d → s ≢ owner d p → share L d s p ≡ record { number = 0; share = shareOf L d s p }
+  unfolding share shareNumber front
+  share-answer s ls apart =
+      rw (sound L W May guarded r .good, lt-ltb s (sites d) ls, lt-ltb p (L .pointers d) lp, ne-eqb s (owner d p) apart)
 
   -- what a site adds to the sum
   one-share : (s : ℕ) → s < sites d → cond (eqb s (owner d p)) (pos 0) (shareOf L d s p) ≡ pos (X (meaning L d) p s - Y (meaning L d) p s unless s is owner d p)

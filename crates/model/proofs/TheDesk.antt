@@ -3,22 +3,28 @@ use Prim.Native.Nat.{ℕ, _-_, _<_}
 use mathlib.Core.Path.{_≡_, refl}
 use mathlib.Core.Logic.{_≢_, _↔_}
 use mathlib.Core.Bool.{true}
+use lib.Dec.{eqb}
 use lib.IntN.{pos}
-use Rattle.moreau.specs.StateSpace.{Msg, DEC, INC-DEC, ⟅_⟆}
+use lib.ListN.{length}
+use Rattle.moreau.specs.StateSpace.{Msg, DEC, INC-DEC, ⟅_⟆, initial}
 use Rattle.moreau.specs.Transformers.{MayCopy, MayReceive, MayDelete}
 use Rattle.moreau.specs.Transitions.{PaperGuard}
 use Rattle.moreau.proofs.Guards.{paper-guard}
-use Rattle.model.specs.declared.Posted.the-variants.{Nothing}
+use Rattle.model.specs.declared.Posted.the-variants.{Copy, Dec as Decr, Nothing}
 use Rattle.model.specs.declared.Call.{Call}
 use Rattle.model.specs.declared.Call.the-variants.{MakeCopy, Receive, Delete, Ask}
+use Rattle.model.specs.Refusals.{_when_}
 use Rattle.model.specs.Answers.{accepted, refused}
-use Rattle.model.specs.Calls.{lentRefusal, openRefusal, step}
-use Rattle.model.specs.Survey.{inFlight, sharePlus, shareMinus, shareOf, sharesOfOthers}
+use Rattle.model.specs.Calls.{lowestEmpty, lentRefusal, openRefusal, openDesk, replied, step}
+use Rattle.model.specs.Survey.{inFlight, sharePlus, shareMinus, shareOf, sharesOfOthers, share}
 use Rattle.model.specs.Tables.{Desk}
 use Rattle.model.specs.Flat.{flat, heldRefusal}
 use Rattle.model.specs.Meaning.{meant, meaning}
 use Rattle.model.specs.Demands.{FirstOf, _among_, listed, openRows, rowsOf, names, controls, MakesCopy, Receives, Deletes, Reached, Quiet}
 use Rattle.model.proofs.FlatLaws.{flat-laws}
+use Rattle.model.proofs.ShapeLaws.{Shaped}
+use Rattle.model.proofs.InWords as in-words
+use Rattle.model.proofs.MeaningLaws as meaning-laws
 use Rattle.model.proofs.Exactly as exactly
 use Rattle.model.proofs.Demand1 as demand-1
 use Rattle.model.proofs.Demand2 as demand-2
@@ -44,7 +50,21 @@ refused-leaves-all = demand-1.refused-leaves-all flat
 pub refused-by-listed : (d : Desk) (c : Call) → step flat d c .answer .number ≢ 0 → step flat d c .answer .number among listed c
 refused-by-listed = demand-1.refused-by-listed flat held
 
+-- The same of an opening; and an accepted one makes the initial configuration of the machine.
+pub refused-opening-leaves-all : (d : Desk) → openDesk flat d .answer .number ≢ 0 → openDesk flat d ≡ record { answer = refused (openDesk flat d .answer .number); desk = d }
+refused-opening-leaves-all = demand-1.refused-opening-leaves-all flat
+
+pub opening-means : (d : Desk) → flat .shaped d ≡ true → flat .owned d ≡ true → meaning flat (flat .cleared d) ≡ initial (d .S) (flat .pointers d) (flat .owner d)
+opening-means = meaning-laws.opening-means flat flat-laws
+
 -- ---- demand 2
+-- 1 and 2 in words: S, G, the lengths and the slot count; the owners, the receive bytes and the slots.
+pub shape-in-words : (d : Desk) → (flat .shaped d ≡ true) ↔ Shaped (d .S) (length (d .owners)) (length (d .send)) (length (d .receive)) (length (d .pool))
+shape-in-words = in-words.shape-in-words
+
+pub sound-in-words : (d : Desk) → (flat .sound d ≡ true) ↔ in-words.Sound d
+sound-in-words = in-words.sound-in-words
+
 -- A number is given exactly where the table of the call says so.
 pub call-exactly : (d : Desk) (c : Call) → FirstOf (rowsOf flat d c) (step flat d c .answer .number)
 call-exactly = exactly.call-exactly flat held
@@ -65,6 +85,20 @@ delete-transition = demand-2.delete-transition flat flat-laws
 pub ask-changes-nothing : (d : Desk) (site p : ℕ) → step flat d (Ask site p) .desk ≡ d
 unfolding step
 ask-changes-nothing = demand-1.ask-changes-nothing flat
+
+-- The answer of an accepted call: its value and its message, on any lent tables.
+pub copy-answer : (d : Desk) (from to p : ℕ) → step flat d (MakeCopy from to p) .answer .number ≡ 0 → step flat d (MakeCopy from to p) .answer ≡ accepted (lowestEmpty flat d) (Copy from to p)
+copy-answer = demand-2.copy-answer flat
+
+pub receive-answer : (d : Desk) (slot : ℕ) → step flat d (Receive slot) .answer .number ≡ 0 → step flat d (Receive slot) .answer ≡ accepted slot (replied flat d slot)
+receive-answer = demand-2.receive-answer flat
+
+pub delete-answer : (d : Desk) (site p : ℕ) → step flat d (Delete site p) .answer .number ≡ 0 → step flat d (Delete site p) .answer ≡ accepted (lowestEmpty flat d) (Decr site (flat .owner d p) p)
+delete-answer = demand-2.delete-answer flat
+
+pub ask-answer : (d : Desk) (site p : ℕ) → step flat d (Ask site p) .answer .number ≡ 0
+    → step flat d (Ask site p) .answer ≡ accepted (1 when eqb (flat .counter d (flat .owner d p) p) 0) Nothing
+ask-answer = demand-2.ask-answer flat
 
 -- Where the machine permits a transition, the names are in range, a counter to be raised stands below 65,535, one to be lowered above 0, and a slot is empty where one is needed, the call is accepted.
 pub copy-permitted : (d : Desk) (from to p slot : ℕ) → lentRefusal flat d ≡ 0 → from < d .S → to < d .S → p < flat .pointers d → MayCopy from to p (meaning flat d)
@@ -99,6 +133,10 @@ ask-waits-for-messages = demand-3.ask-waits-for-messages flat flat-laws PaperGua
 pub share-is-not-negative : {d : Desk} → Reached flat d → (p : ℕ) → p < flat .pointers d → (s : ℕ) → s < d .S → s ≢ flat .owner d p
     → shareOf flat d s p ≡ pos (sharePlus flat d s p - shareMinus flat d s p)
 share-is-not-negative = shares.share-is-not-negative flat flat-laws PaperGuard paper-guard guarded
+
+pub share-answer : {d : Desk} → Reached flat d → (p : ℕ) → p < flat .pointers d → (s : ℕ) → s < d .S → s ≢ flat .owner d p
+    → share flat d s p ≡ record { number = 0; share = shareOf flat d s p }
+share-answer = shares.share-answer flat flat-laws PaperGuard paper-guard guarded
 
 pub owner-counter-is-shares-of-others : {d : Desk} → Reached flat d → (p : ℕ) → p < flat .pointers d → sharesOfOthers flat d p ≡ pos (flat .counter d (flat .owner d p) p)
 owner-counter-is-shares-of-others = shares.owner-counter-is-shares-of-others flat flat-laws PaperGuard paper-guard guarded

@@ -132,7 +132,7 @@ module _ {D : Type 0} (L : Layout D) where
   unfoldable pub ask : D → ℕ → ℕ → Outcome D
   ask d site p = unless (askNumber d site p) d (asked d p)
 
-  -- ---- a call, and calls one after another
+  -- ---- a call
   unfoldable pub step : D → Call → Outcome D
   step d (MakeCopy from to p) = makeCopy d from to p
   step d (Receive slot) = receive d slot

@@ -36,14 +36,12 @@ same-length-2 c = search needs
 
 returns : tie.Need-returns
 unfolding makeCopy copyNumber
-returns c =
-    let f = c .before .before in
-    refused-by-front (desk (start f)) _ (f .front .result) _ _ (c .before .if1 .taken) (f .front .ensures) (c .refused .ensures)
+returns c = refused-by-front (desk (start (c .before .before))) _ _ _ _ (c .before .if1 .taken) (c .before .before .front .ensures) (c .refused .ensures)
 
 known : (c : tie.Else1) → let a = start (c .before) .args in Ready (desk (start (c .before))) (a .from) (a .pointer)
 known c =
     let a = start (c .before) .args in
-    ready-names (desk (start (c .before))) (a .from) (a .pointer) (ltb (a .from) (a .s) && ltb (a .to) (a .s)) (λ e. ltb-true (a .from) (a .s) (and-both _ _ e .0)) (c .before .front .ensures) (c .if1 .left)
+    ready-names (desk (start (c .before))) _ _ (ltb (a .from) (a .s) && ltb (a .to) (a .s)) (λ e. ltb-true _ _ (and-both _ _ e .0)) (c .before .front .ensures) (c .if1 .left)
 
 -- the sender's place
 in-send : (c : tie.After-place-of) → c .place-of .result < length (start (c .before .before) .args .send .now)

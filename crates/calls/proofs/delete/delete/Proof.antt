@@ -2,7 +2,6 @@
 use Prim.Native.Nat.{_<_}
 use mathlib.Core.Path.{_≡_, sym, _∙_}
 use native.Mathlib.Omega.{arith}
-use lib.Dec.{ltb}
 use lib.ListN.{length}
 use borrow.Author.Needs.{needs}
 use borrow.Author.Tests.{ltb-true}
@@ -35,14 +34,10 @@ same-length-2 c = search needs
 
 returns : tie.Need-returns
 unfolding delete deleteNumber
-returns c =
-    let f = c .before .before in
-    refused-by-front (desk (start f)) _ (f .front .result) _ _ (c .before .if1 .taken) (f .front .ensures) (c .refused .ensures)
+returns c = refused-by-front (desk (start (c .before .before))) _ _ _ _ (c .before .if1 .taken) (c .before .before .front .ensures) (c .refused .ensures)
 
 known : (c : tie.Else1) → let a = start (c .before) .args in Ready (desk (start (c .before))) (a .site) (a .pointer)
-known c =
-    let a = start (c .before) .args in
-    ready-names (desk (start (c .before))) (a .site) (a .pointer) (ltb (a .site) (a .s)) (ltb-true (a .site) (a .s)) (c .before .front .ensures) (c .if1 .left)
+known c = ready-names (desk (start (c .before))) _ _ _ (ltb-true _ _) (c .before .front .ensures) (c .if1 .left)
 
 -- the site's place
 in-send : (c : tie.After-place-of) → c .place-of .result < length (start (c .before .before) .args .send .now)

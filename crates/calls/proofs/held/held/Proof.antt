@@ -9,7 +9,7 @@ use Rattle.model.specs.Questions.{some}
 use Rattle.model.specs.Messages.{isIncDec}
 use Rattle.model.specs.Tables.{messageAt}
 use Rattle.model.proofs.QuestionLaws.{some-more, some-done}
-use Rattle.calls.proofs.OrderLaws.{some-here}
+use Rattle.model.proofs.RowLaws.{some-there}
 use Rattle.calls.proofs.held.held.Statement.{statement}
 use Rattle.calls.proofs.held.held.Tie as tie
 
@@ -38,7 +38,7 @@ asked : (c : tie.After-is-inc-dec Inv-loop μ-loop) → let a = c .before .befor
 asked c = rw (c .is-inc-dec .ensures, c .before .read-slot .ensures)
 
 returns : tie.Need-returns Inv-loop μ-loop
-returns c = sym (some-here _ _ (c .before .before .before .before .loop .i) (c .before .before .before .loop-test .taken) (sym (asked (c .before)) ∙ c .if1 .taken))
+returns c = sym (some-there _ _ (c .before .before .before .before .loop .i) (c .before .before .before .loop-test .taken) (sym (asked (c .before)) ∙ c .if1 .taken))
 
 add-i : tie.Need-add-i Inv-loop μ-loop
 add-i c = omega arith

@@ -1,0 +1,17 @@
+-- What is true of a book.
+-- Laws for the proofs of the functions; the first three speak of model's definitions alone.
+pub mod MoreQuestionLaws
+pub mod OrderLaws
+pub mod OwnerLaws
+pub mod SameLaws
+pub mod EntryLaws
+pub mod FindLaws
+pub mod AnswerLaws
+pub mod RefusalLaws
+pub mod AddressLaws
+-- Theorems for a reader.
+pub mod Written
+pub mod Handed
+pub mod Found
+pub mod Unique
+pub mod Cases

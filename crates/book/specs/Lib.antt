@@ -1,0 +1,4 @@
+pub mod Part
+pub mod Book
+pub mod Written
+pub mod Walk

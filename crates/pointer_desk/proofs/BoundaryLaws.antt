@@ -1,0 +1,11 @@
+-- An answer in C's form, beside the lent memory.
+use mathlib.Core.Path.{_≡_, ap}
+use Rattle.model.specs.declared.Answer.{Answer}
+use Rattle.model.specs.Answers.{Outcome}
+use Rattle.model.specs.Tables.{Desk}
+use Rattle.pointer_desk.specs.declared.answer.DeskAnswer.{DeskAnswer}
+use Rattle.pointer_desk.specs.Boundary.{Given, given, flatAnswer}
+
+-- the call's equation, in C's form
+pub in-c : {a : Answer} {r : DeskAnswer} {d : Desk} {o : Outcome Desk} → r ≡ flatAnswer a → record { answer = a; desk = d } ≡ o → record { answer = r; desk = d } ≡ given o
+in-c {a} {r} {d} {o} e f = rw e (ap given f)

@@ -1,0 +1,5 @@
+// The desk for C: every export is its call, and its answer in C's form (Document 01).
+mod addresses;
+mod answer;
+mod counts;
+mod machine;

@@ -1,0 +1,45 @@
+-- Counts of messages: one more slot, and how much they can be.
+use Prim.Native.Nat.{ℕ, zero, suc, _+_, _≤_}
+use mathlib.Core.Path.{_≡_}
+use mathlib.Core.Bool.{Bool, true, false, _&&_}
+use native.Mathlib.Omega.{arith}
+use lib.Dec.{eqb}
+use Rattle.model.specs.declared.Posted.{Posted}
+use Rattle.model.specs.declared.Posted.the-variants.{Copy, Dec, IncDec, Nothing}
+use Rattle.model.specs.Refusals.{_when_}
+use Rattle.model.specs.Questions.{total}
+use Rattle.model.specs.Messages.{isIncDec}
+use Rattle.model.specs.Survey.{copies, decs, incDecs}
+use Rattle.model.proofs.QuestionLaws.{total-more, total-most}
+use Rattle.survey.specs.FirstSlots.{weighed}
+
+-- ---- a count, and a count of two, with one slot more
+pub counted-more : (f : ℕ → ℕ) (i : ℕ) {sum w : ℕ} → sum ≡ total i f → w ≡ f i → sum + w ≡ total (i + 1) f
+counted-more f i e q = omega (arith, total-more f i)
+
+pub both-counted-more : (f g : ℕ → ℕ) (i : ℕ) {sum w : ℕ} → sum ≡ total i f + total i g → w ≡ f i + g i → sum + w ≡ total (i + 1) f + total (i + 1) g
+both-counted-more f g i e q = omega (arith, total-more f i, total-more g i)
+
+-- ---- at most one for each slot
+both-at-most : (f g : ℕ → ℕ) (n : ℕ) → ((i : ℕ) → f i + g i ≤ 1) → total n f + total n g ≤ n
+unfolding total
+both-at-most f g zero h = omega arith
+both-at-most f g (suc n) h = omega (arith, both-at-most f g n h, h n)
+
+pub at-most-1 : (test : Bool) → (1 when test) ≤ 1
+at-most-1 true = omega arith
+at-most-1 false = omega arith
+
+-- a message is not both a DEC and a COPY
+plus-at-most-1 : (site owner p : ℕ) (m : Posted) → decs site owner p m + copies owner site p m ≤ 1
+plus-at-most-1 site owner p (Copy a b q) = omega (arith, at-most-1 (eqb a owner && eqb b site && eqb q p))
+plus-at-most-1 site owner p (Dec a b q) = omega (arith, at-most-1 (eqb a site && eqb b owner && eqb q p))
+plus-at-most-1 site owner p (IncDec a b c q) = omega arith
+plus-at-most-1 site owner p Nothing = omega arith
+
+module _ (message : ℕ → Posted) (n site owner p : ℕ) where
+  pub plus-at-most : weighed message n (decs site owner p) + weighed message n (copies owner site p) ≤ n
+  plus-at-most = both-at-most (λ slot. decs site owner p (message slot)) (λ slot. copies owner site p (message slot)) n (λ slot. plus-at-most-1 site owner p (message slot))
+
+  pub minus-at-most : weighed message n (incDecs site owner p) ≤ n
+  minus-at-most = total-most (λ slot. incDecs site owner p (message slot)) n (λ slot. at-most-1 (isIncDec site owner p (message slot)))

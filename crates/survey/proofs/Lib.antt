@@ -1,0 +1,11 @@
+-- What the proofs of the functions cite, and what is true of shares and sheets.
+pub mod NumberLaws
+pub mod CountLaws
+pub mod SignedLaws
+pub mod AnswerLaws
+pub mod ShareRange
+pub mod GridLaws
+pub mod SheetLaws
+pub mod SheetColumns
+pub mod NegativeShare
+pub mod NoTwoAnswers

@@ -1,0 +1,47 @@
+-- The number first; then one pass over the pool.
+use mathlib.Core.Path.{_≡_, sym, _∙_}
+use native.Mathlib.Omega.{arith}
+use borrow.Author.Needs.{needs}
+use borrow.Author.Tests.{ne-eqb}
+use Rattle.model.specs.Survey.{sheetNumber, sheet}
+use Rattle.model.specs.Tables.{Desk, lent}
+use Rattle.model.specs.Flat.{flat}
+use Rattle.model.proofs.FlatLaws.{flat-laws}
+use Rattle.survey.proofs.NumberLaws.{sheet-good}
+use Rattle.survey.proofs.SheetLaws.{column-is-site}
+use Rattle.survey.proofs.sheet.sheet.Statement.{statement}
+use Rattle.survey.proofs.sheet.sheet.Tie as tie
+
+abbrev start : tie.After-sheet-number → tie.Start
+start c = c .before .before .before .before .before
+
+abbrev desk : tie.Start → Desk
+desk c = lent (c .args .s) (c .args .owners .now) (c .args .send .now) (c .args .receive .now) (c .args .pool .now)
+
+-- 1, 2, 3 are not given
+passed : (c : tie.Else1) → sheetNumber flat (desk (start (c .before))) (start (c .before) .args .pointer) ≡ 0
+passed c = sym (c .before .sheet-number .ensures) ∙ c .if1 .left
+
+sheet-number-requires : tie.Need-sheet-number-requires
+sheet-number-requires c κs = search needs
+
+blank-requires : tie.Need-blank-requires
+blank-requires c κs = search needs
+
+returns : tie.Need-returns
+unfolding sheet
+returns c = rw (← c .before .before .sheet-number .ensures, ne-eqb _ _ (c .before .if1 .taken)) (c .blank .ensures)
+
+entries-requires : tie.Need-entries-requires
+entries-requires c κs =
+    let d = desk (start (c .before)) in
+    let good = sheet-good flat d _ (passed c) in
+    let sites = flat-laws .some-site d good .1 in
+    (flat-laws .few-slots d good, λ slot l. omega (arith, column-is-site flat flat-laws d good slot l, sites))
+
+returns-2 : tie.Need-returns-2
+unfolding sheet
+returns-2 c = rw (passed (c .before)) (c .entries .ensures)
+
+pub sheet-spec : {M : Type 1} → statement M
+sheet-spec = tie.close (tie.spec sheet-number-requires blank-requires returns entries-requires returns-2)

@@ -1,0 +1,84 @@
+/* The desk for C. The parts of document 01 are named with each call; a null pointer with length 0 is an empty part. */
+#ifndef POINTER_DESK_H
+#define POINTER_DESK_H
+
+#include <stddef.h>
+#include <stdint.h>
+
+#ifdef __cplusplus
+extern "C" {
+#endif
+
+/* The calls: a refusal number (0: accepted), a value, and the posted message as slot bytes (all 0: none). */
+typedef struct {
+    uint8_t number;
+    uint16_t value;
+    uint8_t message[5];
+} desk_answer;
+
+/* Share and sheet: a refusal number, and one signed whole number. */
+typedef struct {
+    uint8_t number;
+    int32_t share;
+} desk_share_answer;
+
+/* The address book: a refusal number, and where the address stands in the lent book. */
+typedef struct {
+    uint8_t number;
+    size_t at;
+    size_t length;
+} desk_part;
+
+/* What the host lends: an opening. */
+desk_answer desk_open(uint8_t sites, const uint8_t *owners, size_t owners_len,
+                      uint16_t *send, size_t send_len, uint8_t *receive, size_t receive_len,
+                      uint8_t *pool, size_t pool_len);
+
+/* The calls: make copy. */
+desk_answer desk_make_copy(uint8_t sites, const uint8_t *owners, size_t owners_len,
+                           uint16_t *send, size_t send_len, const uint8_t *receive, size_t receive_len,
+                           uint8_t *pool, size_t pool_len, uint8_t from, uint8_t to, uint8_t pointer);
+
+/* The calls: receive. */
+desk_answer desk_receive(uint8_t sites, const uint8_t *owners, size_t owners_len,
+                         uint16_t *send, size_t send_len, uint8_t *receive, size_t receive_len,
+                         uint8_t *pool, size_t pool_len, uint16_t slot);
+
+/* The calls: delete. */
+desk_answer desk_delete(uint8_t sites, const uint8_t *owners, size_t owners_len,
+                        const uint16_t *send, size_t send_len, uint8_t *receive, size_t receive_len,
+                        uint8_t *pool, size_t pool_len, uint8_t site, uint8_t pointer);
+
+/* The calls: ask. */
+desk_answer desk_ask(uint8_t sites, const uint8_t *owners, size_t owners_len,
+                     const uint16_t *send, size_t send_len, const uint8_t *receive, size_t receive_len,
+                     const uint8_t *pool, size_t pool_len, uint8_t site, uint8_t pointer);
+
+/* Share and sheet: the share of a site; 0 after a refusal. */
+desk_share_answer desk_share(uint8_t sites, const uint8_t *owners, size_t owners_len,
+                             const uint16_t *send, size_t send_len, const uint8_t *receive, size_t receive_len,
+                             const uint8_t *pool, size_t pool_len, uint8_t site, uint8_t pointer);
+
+/* Share and sheet: 192 counts, row by row, all 0 after a refusal; another length gives 1, and nothing is written. */
+uint8_t desk_sheet(uint8_t sites, const uint8_t *owners, size_t owners_len,
+                   const uint16_t *send, size_t send_len, const uint8_t *receive, size_t receive_len,
+                   const uint8_t *pool, size_t pool_len, uint8_t pointer, uint32_t *sheet, size_t sheet_len);
+
+/* The address book: the address of a pointer; at 0 with length 0 after a refusal. */
+desk_part desk_book_address(uint8_t sites, const uint8_t *owners, size_t owners_len,
+                            const uint8_t *book, size_t book_len, uint8_t pointer);
+
+/* The address book: a check. */
+desk_answer desk_book_check(uint8_t sites, const uint8_t *owners, size_t owners_len,
+                            const uint8_t *book, size_t book_len);
+
+/* The address book: a search by owner and whole address. */
+desk_answer desk_book_search(uint8_t sites, const uint8_t *owners, size_t owners_len,
+                             const uint8_t *book, size_t book_len,
+                             uint8_t owner, const uint8_t *address, size_t address_len);
+
+#ifdef __cplusplus
+}
+#endif
+
+#endif
