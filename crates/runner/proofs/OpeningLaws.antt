@@ -8,8 +8,8 @@ use native.Mathlib.Omega.{arith}
 use lib.Dec.{leb, eqb}
 use lib.ListN.{length, take, replicate, length-replicate}
 use borrow.Author.Tests.{ltb-true, leb-true}
-use Rattle.model.specs.Answers.{refused, Outcome}
-use Rattle.model.specs.Questions.{every, upTo}
+use Rattle.model.specs.Answers.{refused}
+use Rattle.model.specs.Questions.{every}
 use Rattle.model.specs.Calls.{openDesk}
 use Rattle.model.specs.Tables.{Desk, lent}
 use Rattle.model.specs.Flat.{flat}
@@ -17,9 +17,8 @@ use Rattle.model.specs.Lines.{byteAt, isByte}
 use Rattle.model.specs.Transcript.{openingForm, sitesIn, slotsIn, ownersIn, fresh, opening}
 use Rattle.model.proofs.TestLaws.{and-both}
 use Rattle.model.proofs.QuestionLaws.{every-at, length-up-to}
-use Rattle.model.proofs.ShapeLaws.{Shaped, shaped}
+use Rattle.model.proofs.ShapeLaws.{shaped}
 use Rattle.tables.proofs.OpeningLaws.{shape-refused}
-use Rattle.runner.specs.declared.opening.Opening.{Opening}
 use Rattle.runner.specs.declared.opening.Opening.the-variants.{Asks, Refused}
 use Rattle.runner.specs.Opened.{pointersIn, asked, readOpening, Opens}
 

@@ -1,7 +1,7 @@
 -- One turn of the loop over the lines: what is left, written at its place, gives what all, written past the opening's answer line, gives.
 use Prim.Native.Nat.{ℕ, _+_, _*_, _≤_, _<_}
 use mathlib.Core.Path.{_≡_, refl, sym, ap, _∙_}
-use mathlib.Core.List.{List, [], _∷_, _++_}
+use mathlib.Core.List.{List, [], _++_}
 use native.Mathlib.Omega.{arith}
 use lib.ListN.{length, drop, length-append}
 use lib.Seq.{sets, length-sets}
@@ -17,7 +17,7 @@ use Rattle.model.specs.Lines.{readLine, linesOf, lineAt, pastAt}
 use Rattle.model.specs.Transcript.{answerLine, obeyed, answers}
 use Rattle.lines.proofs.PlaceLaws.{lines-at, no-lines, past-later}
 use Rattle.lines.proofs.StoreLaws.{sets-then, length-answer-line}
-use Rattle.runner.specs.Run.{Written, writtenAt}
+use Rattle.runner.specs.Run.{writtenAt}
 use Rattle.runner.specs.Opened.{refusalIn}
 
 -- the answers from a place on, still to be written, of all that are written past the first 17 bytes

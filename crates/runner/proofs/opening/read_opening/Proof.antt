@@ -5,7 +5,6 @@ use mathlib.Core.Bool.{true}
 use native.Mathlib.Omega.{arith}
 use borrow.Author.Needs.{needs}
 use borrow.Author.Tests.{not-true, not-false}
-use lib.ListN.{length}
 use Rattle.model.specs.Transcript.{openingForm}
 use Rattle.runner.specs.Opened.{pointersIn}
 use Rattle.runner.proofs.OpeningLaws.{Formed, formed, byte-below, byte-cells, form-turned-down, shape-turned-down, shape-asked}

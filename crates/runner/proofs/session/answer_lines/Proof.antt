@@ -2,10 +2,10 @@
 use Prim.Native.Nat.{_+_, _-_, _≤_, _<_}
 use mathlib.Core.Path.{_≡_, refl, sym, _∙_}
 use native.Mathlib.Omega.{arith}
-use lib.ListN.{length, drop}
+use lib.ListN.{length}
 use borrow.Author.Needs.{needs}
 use Rattle.model.specs.Tables.{Desk, lent}
-use Rattle.model.specs.Lines.{linesOf, lineAt}
+use Rattle.model.specs.Lines.{readLine, linesOf, lineAt, pastAt}
 use Rattle.model.specs.Transcript.{answers}
 use Rattle.lines.proofs.PlaceLaws.{past-later}
 use Rattle.runner.proofs.NextLaws.{line-said, ended-said}
@@ -27,12 +27,24 @@ start c = c .before .before .before .before .before .before .before
 abbrev desk : tie.At-loop Inv-loop μ-loop → Desk
 desk c = let a = start c .args in lent (a .s) (a .owners .now) (c .loop .send) (c .loop .receive) (c .loop .pool)
 
--- a line starts there, and its answer line fits
-there : (c : tie.After-next Inv-loop μ-loop) → let m = c .before .before .before in m .loop .at < length (start m .args .text .now)
-there c = let m = c .before .before .before in line-said (start m .args .text .now) (m .loop .at) (sym (c .before .before .next-at .ensures) ∙ c .next .given .1) .0
+-- from the end of a turn back to the line that it read: a refused one, and a call
+abbrev refusing : tie.After-slice-known5 Inv-loop μ-loop → tie.After-next Inv-loop μ-loop
+refusing c = c .before .before .before .before .before .before .before .before .before
 
+abbrev calling : tie.After-slice-known9 Inv-loop μ-loop → tie.After-next Inv-loop μ-loop
+calling c = c .before .before .before .before .before .before .before .before .before .before .before .before .before .before .before .before .before .before
+
+-- a line starts there: what it says, and the place past it
+line : (c : tie.After-next Inv-loop μ-loop) → let m = c .before .before .before in let text = start m .args .text .now in
+    (m .loop .at < length text) × (c .next .given .0 .0 ≡ readLine (lineAt text (m .loop .at))) × (c .next .given .0 .1 .0 ≡ pastAt text (m .loop .at))
+line c = let m = c .before .before .before in line-said (start m .args .text .now) (m .loop .at) (sym (c .before .before .next-at .ensures) ∙ c .next .given .1)
+
+-- its answer line fits, and the place is further on
 fits : (c : tie.After-next Inv-loop μ-loop) → let m = c .before .before .before in m .loop .end + 17 ≤ length (m .loop .output)
-fits c = let m = c .before .before .before in omega (arith, there c, m .loop .inv .3 .fits, m .loop .inv .3 .long, start m .pre)
+fits c = let m = c .before .before .before in omega (arith, line c .0, m .loop .inv .3 .fits, m .loop .inv .3 .long, start m .pre)
+
+onward : (c : tie.After-next Inv-loop μ-loop) → let m = c .before .before .before in let text = start m .args .text .now in length text - c .next .given .0 .1 .0 < length text - m .loop .at
+onward c = let m = c .before .before .before in omega (arith, line c .0, line c .2, past-later (start m .args .text .now) (m .loop .at) (line c .0))
 
 loop-holds : tie.Need-loop-holds Inv-loop μ-loop
 loop-holds c = (refl, refl, refl, all-left _ _ _)
@@ -62,24 +74,19 @@ put-answer-requires : tie.Need-put-answer-requires Inv-loop μ-loop
 put-answer-requires c κs = omega (arith, fits (c .before .before .before .before .before .before))
 
 add-end : tie.Need-add-end Inv-loop μ-loop
-add-end c = let n = c .before .before .before .before .before .before .before .before .before in omega (arith, fits n, n .before .before .before .loop .inv .3 .long, start (n .before .before .before) .good)
+add-end c = let m = refusing c .before .before .before in omega (arith, fits (refusing c), m .loop .inv .3 .long, start m .good)
 
 loop-less : tie.Need-loop-less Inv-loop μ-loop
-loop-less c =
-    let n = c .before .before .before .before .before .before .before .before .before in
-    let m = n .before .before .before in
-    let f = line-said (start m .args .text .now) (m .loop .at) (sym (n .before .before .next-at .ensures) ∙ n .next .given .1) in
-    omega (arith, f .0, f .2, past-later (start m .args .text .now) (m .loop .at) (f .0))
+loop-less c = omega (arith, onward (refusing c), line (refusing c) .0)
 
 loop-again : tie.Need-loop-again Inv-loop μ-loop
 loop-again c =
-    let refusal = c .before .before .before .before in
-    let next = refusal .before .before .before .before .before in
-    let m = next .before .before .before in
-    let a = start m .args in
-    let f = line-said (a .text .now) (m .loop .at) (sym (next .before .before .next-at .ensures) ∙ next .next .given .1) in
-    let o = refused-line (desk m) (lineAt (a .text .now) (m .loop .at)) (f .1) (refusal .before .before .enum-told2 .given .1) (refusal .refusal-in .ensures) (c .before .before .before .refused .ensures) in
-    (m .loop .inv .0, m .loop .inv .1, m .loop .inv .2, turn (desk m) (a .text .now) (m .loop .at) _ (m .loop .output) _ (m .loop .end) _ (f .0) (f .2) o (c .before .before .put-answer .ensures) (m .loop .inv .3))
+    let number = c .before .before .before .before in
+    let n = refusing c in
+    let m = n .before .before .before in
+    let text = start m .args .text .now in
+    let o = refused-line (desk m) (lineAt text (m .loop .at)) (line n .1) (number .before .before .enum-told2 .given .1) (number .refusal-in .ensures) (c .before .before .before .refused .ensures) in
+    (m .loop .inv .0, m .loop .inv .1, m .loop .inv .2, turn (desk m) text (m .loop .at) _ (m .loop .output) _ (m .loop .end) _ (line n .0) (line n .2) o (c .before .before .put-answer .ensures) (m .loop .inv .3))
 
 step-requires : tie.Need-step-requires Inv-loop μ-loop
 step-requires c κs = search needs
@@ -88,26 +95,24 @@ put-answer-requires-2 : tie.Need-put-answer-requires-2 Inv-loop μ-loop
 put-answer-requires-2 c κs = omega (arith, fits (c .before .before .before .before .before .before .before .before .before .before .before .before .before .before .before))
 
 add-end-2 : tie.Need-add-end-2 Inv-loop μ-loop
-add-end-2 c = let n = c .before .before .before .before .before .before .before .before .before .before .before .before .before .before .before .before .before .before in omega (arith, fits n, n .before .before .before .loop .inv .3 .long, start (n .before .before .before) .good)
+add-end-2 c = let m = calling c .before .before .before in omega (arith, fits (calling c), m .loop .inv .3 .long, start m .good)
 
 loop-less-2 : tie.Need-loop-less-2 Inv-loop μ-loop
-loop-less-2 c =
-    let n = c .before .before .before .before .before .before .before .before .before .before .before .before .before .before .before .before .before .before in
-    let m = n .before .before .before in
-    let f = line-said (start m .args .text .now) (m .loop .at) (sym (n .before .before .next-at .ensures) ∙ n .next .given .1) in
-    omega (arith, f .0, f .2, past-later (start m .args .text .now) (m .loop .at) (f .0))
+loop-less-2 c = omega (arith, onward (calling c), line (calling c) .0)
 
 loop-again-2 : tie.Need-loop-again-2 Inv-loop μ-loop
 loop-again-2 c =
     let call = c .before .before .before .before .before .before .before .before .before .before in
-    let read = call .before .before .before .before .before in
-    let next = read .before .before .before in
-    let m = next .before .before .before in
-    let a = start m .args in
-    let k = call .step .kept .1 .1 in
-    let f = line-said (a .text .now) (m .loop .at) (sym (next .before .before .next-at .ensures) ∙ next .next .given .1) in
-    let o = said-line (desk m) (lineAt (a .text .now) (m .loop .at)) (f .1) (read .read .given .1) (call .step .ensures) in
-    (k .0 ∙ m .loop .inv .0, k .1 .0 ∙ m .loop .inv .1, k .1 .1 .0 ∙ m .loop .inv .2, turn (desk m) (a .text .now) (m .loop .at) _ (m .loop .output) _ (m .loop .end) _ (f .0) (f .2) o (c .before .before .put-answer2 .ensures) (m .loop .inv .3))
+    let n = calling c in
+    let m = n .before .before .before in
+    let text = start m .args .text .now in
+    let kept = call .step .kept .1 .1 in
+    let o = said-line (desk m) (lineAt text (m .loop .at)) (line n .1) (call .before .before .before .before .before .read .given .1) (call .step .ensures) in (
+      kept .0 ∙ m .loop .inv .0,
+      kept .1 .0 ∙ m .loop .inv .1,
+      kept .1 .1 .0 ∙ m .loop .inv .2,
+      turn (desk m) text (m .loop .at) _ (m .loop .output) _ (m .loop .end) _ (line n .0) (line n .2) o (c .before .before .put-answer2 .ensures) (m .loop .inv .3),
+    )
 
 same-length : tie.Need-same-length Inv-loop μ-loop
 same-length c = c .before .before .before .loop .inv .0
