@@ -3,3 +3,4 @@ mod addresses;
 mod answer;
 mod counts;
 mod machine;
+mod program;
