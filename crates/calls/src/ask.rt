@@ -1,8 +1,8 @@
 // Ask (Document 01, The calls).
 use model::Answer;
 use model::Posted;
-use tables::answer::accepted;
-use tables::answer::refused;
+use rules::answer::accepted;
+use rules::answer::refused;
 use tables::front::front;
 use tables::place::place_of;
 ghost use mathlib.Core.Path.{_≡_};

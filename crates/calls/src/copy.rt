@@ -1,9 +1,9 @@
 // Make copy (Document 01, The calls).
-use crate::refusal::copy_refusal;
 use model::Answer;
 use model::Posted;
-use tables::answer::accepted;
-use tables::answer::refused;
+use rules::answer::accepted;
+use rules::answer::refused;
+use rules::refusal::copy_refusal;
 use tables::front::front;
 use tables::place::place_of;
 use tables::pool::lowest_empty;

@@ -1,7 +1,7 @@
 // Held: 9 (Document 01, Why a call is turned down).
-use crate::message::is_inc_dec;
-use crate::refusal::when;
 use model::Posted;
+use rules::message::is_inc_dec;
+use rules::refusal::when;
 use tables::pool::read_slot;
 ghost use mathlib.Core.Path.{_≡_};
 ghost use Rattle.model.specs.Questions.{some};

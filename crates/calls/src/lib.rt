@@ -4,6 +4,4 @@ pub mod copy;
 pub mod delete;
 pub mod front;
 pub mod held;
-pub mod message;
 pub mod receive;
-pub mod refusal;

@@ -1,16 +1,16 @@
 // Receive (Document 01, The calls).
 use crate::front::slot_refusal;
 use crate::held::held_refusal;
-use crate::message::cell_after;
-use crate::message::counter_after;
-use crate::message::pointer_of;
-use crate::message::receive_refusal;
-use crate::message::receiver;
-use crate::message::reply;
-use crate::refusal::first_of;
 use model::Answer;
-use tables::answer::accepted;
-use tables::answer::refused;
+use rules::answer::accepted;
+use rules::answer::refused;
+use rules::message::cell_after;
+use rules::message::counter_after;
+use rules::message::pointer_of;
+use rules::message::receive_refusal;
+use rules::message::receiver;
+use rules::message::reply;
+use rules::refusal::first_of;
 use tables::place::place_of;
 use tables::pool::read_slot;
 use tables::pool::write_slot;

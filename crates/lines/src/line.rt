@@ -2,6 +2,7 @@
 use crate::digit::byte_at;
 use model::Call;
 use model::Read;
+use rules::refusal::first_of;
 ghost use mathlib.Core.Path.{_≡_};
 ghost use mathlib.Core.Bool.{_&&_, _||_, not};
 ghost use lib.Dec.{leb, eqb};
@@ -13,13 +14,6 @@ const BAD_LINE: u8 = 14;
 const UNKNOWN_CODE: u8 = 15;
 
 const PRIVATE_CODE: u8 = 16;
-
-// The first of two numbers that is given; 0 where none is.
-fn or_else(m: u8, n: u8) -> u8
-    ensures { λ r. ⌜ r ≡ m orElse n ⌝ }
-{
-    if m == 0 { n } else { m }
-}
 
 // Code: 15 for 00 and 05 to 7F, 16 for 80 to FF.
 fn code_refusal(code: u8) -> u8
@@ -73,7 +67,7 @@ fn read_bytes(code: u8, a: u8, b: u8, c: u8) -> Read
 {
     let by_code = code_refusal(code);
     let by_last = last_refusal(code, c);
-    let number = or_else(by_code, by_last);
+    let number = first_of(by_code, by_last);
     if number != 0 {
         return Read::Refused(number);
     }

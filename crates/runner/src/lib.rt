@@ -1,7 +1,7 @@
 // A whole input in, a whole output out: all of the program `desk` but its reading and writing (Document 01, Lines).
 use crate::session::begin;
 use lines::write::put_answer;
-use tables::answer::refused;
+use rules::answer::refused;
 
 mod opening;
 mod session;

@@ -15,7 +15,7 @@ use model::Answer;
 use model::Call;
 use model::Next;
 use model::Read;
-use tables::answer::refused;
+use rules::answer::refused;
 use tables::opening::open_desk;
 ghost use mathlib.Core.Path.{_≡_};
 ghost use mathlib.Core.Bool.{true};

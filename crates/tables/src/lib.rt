@@ -1,5 +1,4 @@
 // The lent tables: the tests 1, 2 and 3, the opening, places, and the slots of the pool.
-pub mod answer;
 pub mod bytes;
 pub mod front;
 pub mod lent;

@@ -8,10 +8,10 @@ use Rattle.lines.proofs.CallLaws.{all-bytes, order-of-tests, refused-by
 use Rattle.lines.proofs.line.read_bytes.Statement.{statement}
 use Rattle.lines.proofs.line.read_bytes.Tie as tie
 
-in-order : (c : tie.After-or-else) → let a = c .before .before .before .args in c .or-else .result ≡ lineRefusal (a .code) (a .a) (a .b) (a .c)
+in-order : (c : tie.After-first-of) → let a = c .before .before .before .args in c .first-of .result ≡ lineRefusal (a .code) (a .a) (a .b) (a .c)
 in-order c =
     let a = c .before .before .before .args in
-    c .or-else .ensures ∙ ap₂ _orElse_ (c .before .before .code-refusal .ensures) (c .before .last-refusal .ensures)
+    c .first-of .ensures ∙ ap₂ _orElse_ (c .before .before .code-refusal .ensures) (c .before .last-refusal .ensures)
     ∙ order-of-tests (a .code) (a .a) (a .b) (a .c) (all-bytes (a .code) (a .a) (a .b) (a .c) (omega arith) (omega arith) (omega arith) (omega arith))
 
 code-refusal-requires : tie.Need-code-refusal-requires
@@ -20,8 +20,8 @@ code-refusal-requires c κs = search needs
 last-refusal-requires : tie.Need-last-refusal-requires
 last-refusal-requires c κs = search needs
 
-or-else-requires : tie.Need-or-else-requires
-or-else-requires c κs = search needs
+first-of-requires : tie.Need-first-of-requires
+first-of-requires c κs = search needs
 
 returns : tie.Need-returns
 returns c = refused-by _ _ _ (in-order (c .before)) (c .if1 .taken)
@@ -38,7 +38,7 @@ read-bytes-spec =
     (tie.spec
     code-refusal-requires
     last-refusal-requires
-    or-else-requires
+    first-of-requires
     returns
     call-of-requires
     returns-2)

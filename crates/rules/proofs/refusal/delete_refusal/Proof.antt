@@ -1,8 +1,8 @@
 -- Delete's tests 11, 5, 12, 7, in that order.
 use borrow.Author.Needs.{needs}
 use Rattle.model.specs.Calls.{deleteRefusal}
-use Rattle.calls.proofs.refusal.delete_refusal.Statement.{statement}
-use Rattle.calls.proofs.refusal.delete_refusal.Tie as tie
+use Rattle.rules.proofs.refusal.delete_refusal.Statement.{statement}
+use Rattle.rules.proofs.refusal.delete_refusal.Tie as tie
 
 when-requires : tie.Need-when-requires
 when-requires c κs = search needs

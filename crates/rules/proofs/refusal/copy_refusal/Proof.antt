@@ -1,8 +1,8 @@
 -- Make copy's tests 4, 5, 6, 7, in that order.
 use borrow.Author.Needs.{needs}
 use Rattle.model.specs.Calls.{copyRefusal}
-use Rattle.calls.proofs.refusal.copy_refusal.Statement.{statement}
-use Rattle.calls.proofs.refusal.copy_refusal.Tie as tie
+use Rattle.rules.proofs.refusal.copy_refusal.Statement.{statement}
+use Rattle.rules.proofs.refusal.copy_refusal.Tie as tie
 
 when-requires : tie.Need-when-requires
 when-requires c κs = search needs

@@ -6,8 +6,8 @@ use borrow.Author.Needs.{needs}
 use borrow.Author.Tests.{eqb-false}
 use Rattle.model.specs.Refusals.{CounterZero, CounterFull, _when_}
 use Rattle.model.proofs.TestLaws.{when-not}
-use Rattle.calls.proofs.message.counter_after.Statement.{statement}
-use Rattle.calls.proofs.message.counter_after.Tie as tie
+use Rattle.rules.proofs.message.counter_after.Statement.{statement}
+use Rattle.rules.proofs.message.counter_after.Tie as tie
 
 enum-told : tie.Need-enum-told
 enum-told c = search needs

@@ -1,8 +1,8 @@
 -- A COPY's reply goes by the receiver's cell, then by the owner.
 use borrow.Author.Needs.{needs}
 use borrow.Author.Tests.{eq-eqb, ne-eqb}
-use Rattle.calls.proofs.message.reply.Statement.{statement}
-use Rattle.calls.proofs.message.reply.Tie as tie
+use Rattle.rules.proofs.message.reply.Statement.{statement}
+use Rattle.rules.proofs.message.reply.Tie as tie
 
 enum-known-m : tie.Need-enum-known-m
 enum-known-m c = search needs

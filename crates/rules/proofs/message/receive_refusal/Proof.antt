@@ -1,7 +1,7 @@
 -- Each kind has its one test.
 use borrow.Author.Needs.{needs}
-use Rattle.calls.proofs.message.receive_refusal.Statement.{statement}
-use Rattle.calls.proofs.message.receive_refusal.Tie as tie
+use Rattle.rules.proofs.message.receive_refusal.Statement.{statement}
+use Rattle.rules.proofs.message.receive_refusal.Tie as tie
 
 enum-known-m : tie.Need-enum-known-m
 enum-known-m c = search needs

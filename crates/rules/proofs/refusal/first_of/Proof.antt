@@ -1,8 +1,8 @@
 -- A number that is given comes first.
 use borrow.Author.Needs.{needs}
 use Rattle.model.proofs.TestLaws.{or-else-first}
-use Rattle.calls.proofs.refusal.first_of.Statement.{statement}
-use Rattle.calls.proofs.refusal.first_of.Tie as tie
+use Rattle.rules.proofs.refusal.first_of.Statement.{statement}
+use Rattle.rules.proofs.refusal.first_of.Tie as tie
 
 returns : tie.Need-returns
 returns c = or-else-first _ _ (c .if1 .taken)

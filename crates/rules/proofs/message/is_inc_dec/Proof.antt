@@ -1,7 +1,7 @@
 -- An INC_DEC is told by its sender, its receiver and its pointer.
 use borrow.Author.Needs.{needs}
-use Rattle.calls.proofs.message.is_inc_dec.Statement.{statement}
-use Rattle.calls.proofs.message.is_inc_dec.Tie as tie
+use Rattle.rules.proofs.message.is_inc_dec.Statement.{statement}
+use Rattle.rules.proofs.message.is_inc_dec.Tie as tie
 
 enum-told : tie.Need-enum-told
 enum-told c = search needs
