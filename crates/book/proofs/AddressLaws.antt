@@ -21,7 +21,7 @@ part-within book start n = rw (add-comm start (book .place), add-sub-cancel-left
 
 module _ (s : ℕ) (owners : List ℕ) (p : ℕ) where
   -- a question that passes has its entry in the book
-  place-inside : (book : List ℕ) → addressNumber s owners book p ≡ 0 → entryPlace s owners book p + 1 + lengthByte book p ≤ length book
+  pub place-inside : (book : List ℕ) → addressNumber s owners book p ≡ 0 → entryPlace s owners book p + 1 + lengthByte book p ≤ length book
   place-inside book z =
       let a = address-passes s owners book p z in
       omega (arith, place-given s owners book p z, entry-inside 1 book (length owners) (book-passes s owners book (a .0) .1) p (a .1))

@@ -46,7 +46,7 @@ pub fn address_number(s: u8, owners: &[u8], book: &[u8], pointer: u8) -> u8
 }
 
 // Where the entry of a pointer starts; the book's length, where none does, after a refusal.
-fn entry_place(s: u8, owners: &[u8], book: &[u8], pointer: u8) -> usize
+pub fn entry_place(s: u8, owners: &[u8], book: &[u8], pointer: u8) -> usize
     ensures { λ r. ⌜ r ≡ entryPlace s (now (owners .entry)) (now (book .entry)) pointer ⌝ }
 {
     if owners_refusal(s, owners) != 0 {

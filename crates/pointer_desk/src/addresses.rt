@@ -3,11 +3,10 @@ use crate::answer::DeskAnswer;
 use crate::answer::flat_answer;
 use book::address_number;
 use book::check;
+use book::entry_place;
 use book::search;
 ghost use mathlib.Core.Path.{_≡_};
-ghost use mathlib.Core.Bool.{true};
-ghost use Prim.Native.Nat.{_≤_};
-ghost use Rattle.book.specs.Book.{isBook, entryAt, checkAnswer, searchAnswer};
+ghost use Rattle.book.specs.Book.{checkAnswer, searchAnswer};
 ghost use Rattle.pointer_desk.specs.Boundary.{flatAnswer, partGiven};
 
 // A number, and a part of the lent book: where it starts, and its length.
@@ -16,20 +15,6 @@ pub struct DeskPart {
     pub number: u8,
     pub at: usize,
     pub length: usize,
-}
-
-// Where the entry of one of g pointers starts.
-fn entry_at(g: usize, book: &[u8], p: usize) -> usize
-    requires { ⌜ (isBook g (now book) ≡ true) × (p ≤ g) ⌝ }
-    ensures { λ r. ⌜ r ≡ entryAt (now (book .entry)) p ⌝ }
-{
-    let mut at = 0;
-    let mut i = 0;
-    while i < p {
-        at = at + 1 + (book[at] as usize);
-        i += 1;
-    }
-    at
 }
 
 // The question for an address.
@@ -45,11 +30,13 @@ pub extern "C" fn desk_book_address(sites: u8, owners: &[u8], book: &[u8], point
             length: 0,
         };
     }
-    let at = entry_at(owners.len(), book, pointer as usize);
+    let entry = entry_place(sites, owners, book, pointer);
+    let at = entry + 1;
+    let length = book[entry] as usize;
     DeskPart {
         number: 0,
-        at: at + 1,
-        length: book[at] as usize,
+        at,
+        length,
     }
 }
 

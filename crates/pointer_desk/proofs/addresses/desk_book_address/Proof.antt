@@ -3,7 +3,7 @@ use Prim.Native.Nat.{_+_, _≤_}
 use native.Mathlib.Omega.{arith}
 use borrow.Author.Needs.{needs}
 use lib.ListN.{length, getD}
-use Rattle.pointer_desk.proofs.EntryLaws.{part-refused, part-book, part-pointer, part-inside, part-given}
+use Rattle.pointer_desk.proofs.EntryLaws.{part-refused, part-inside, part-given}
 use Rattle.pointer_desk.proofs.addresses.desk_book_address.Statement.{statement}
 use Rattle.pointer_desk.proofs.addresses.desk_book_address.Tie as tie
 
@@ -19,34 +19,30 @@ returns c =
     let a = start n .args in
     part-refused (a .sites) (a .owners .now) (a .book .now) (a .pointer) (n .address-number .ensures) (c .if1 .taken)
 
-entry-at-requires : tie.Need-entry-at-requires
-entry-at-requires c κs =
-    let n = c .before in
-    let a = start n .args in
-    let low = part-pointer (a .sites) (a .owners .now) (a .book .now) (a .pointer) (n .address-number .ensures) (c .if1 .left) in
-    (part-book (a .sites) (a .owners .now) (a .book .now) (a .pointer) (n .address-number .ensures) (c .if1 .left), omega arith)
+entry-place-requires : tie.Need-entry-place-requires
+entry-place-requires c κs = search needs
 
 -- the address ends in the book
-inside : (c : tie.After-entry-at) → c .entry-at .result + 1 + getD (start (c .before .before) .args .book .now) (c .entry-at .result) 0 ≤ length (start (c .before .before) .args .book .now)
+inside : (c : tie.After-entry-place) → c .entry-place .result + 1 + getD (start (c .before .before) .args .book .now) (c .entry-place .result) 0 ≤ length (start (c .before .before) .args .book .now)
 inside c =
     let n = c .before .before in
     let a = start n .args in
-    part-inside (a .sites) (a .owners .now) (a .book .now) (a .pointer) (n .address-number .ensures) (c .before .if1 .left) (c .entry-at .ensures)
+    part-inside (a .sites) (a .owners .now) (a .book .now) (a .pointer) (n .address-number .ensures) (c .before .if1 .left) (c .entry-place .ensures)
 
-add-t8 : tie.Need-add-t8
-add-t8 c = omega (arith, inside c)
+add-at : tie.Need-add-at
+add-at c = omega (arith, inside c)
 
-shared-slice-read-t11 : tie.Need-shared-slice-read-t11
-shared-slice-read-t11 c = omega (arith, inside (c .before))
+shared-slice-read-length : tie.Need-shared-slice-read-length
+shared-slice-read-length c = omega (arith, inside (c .before))
 
-cast-t9 : tie.Need-cast-t9
-cast-t9 c = omega (arith, inside (c .before))
+cast-length : tie.Need-cast-length
+cast-length c = omega (arith, inside (c .before))
 
 returns-2 : tie.Need-returns-2
 returns-2 c =
     let n = c .before .before .before in
     let a = start n .args in
-    part-given (a .sites) (a .owners .now) (a .book .now) (a .pointer) (n .address-number .ensures) (c .before .before .if1 .left) (c .before .entry-at .ensures)
+    part-given (a .sites) (a .owners .now) (a .book .now) (a .pointer) (n .address-number .ensures) (c .before .before .if1 .left) (c .before .entry-place .ensures)
 
 pub desk-book-address-spec : {M : Type 1} → statement M
 desk-book-address-spec =
@@ -54,8 +50,8 @@ desk-book-address-spec =
     (tie.spec
     address-number-requires
     returns
-    entry-at-requires
-    add-t8
-    shared-slice-read-t11
-    cast-t9
+    entry-place-requires
+    add-at
+    shared-slice-read-length
+    cast-length
     returns-2)
