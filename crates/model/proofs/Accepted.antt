@@ -1,26 +1,24 @@
 -- What an accepted call says of the lent memory: no reason of its table holds.
-use Prim.Native.Nat.{ℕ, zero, suc, _+_, _≤_, _<_}
-use mathlib.Core.Path.{_≡_, refl, sym, ap, _∙_}
+use Prim.Native.Nat.{ℕ, suc, _≤_, _<_}
+use mathlib.Core.Path.{_≡_, refl, sym, _∙_}
 use mathlib.Core.Logic.{_≢_, _⊎_, inl, inr}
 use mathlib.Core.Bool.{Bool, true, false, not}
-use mathlib.Core.List.{List, [], _∷_}
+use mathlib.Core.List.{List, _∷_}
 use native.Mathlib.Decide.{ℕ-discrete, decLt}
 use native.Mathlib.Omega.{arith}
-use lib.Dec.{leb, ltb, eqb}
+use lib.Dec.{ltb}
 use borrow.Author.Tests.{le-leb, ltb-true, not-false}
 use Rattle.model.specs.declared.Posted.{Posted}
 use Rattle.model.specs.declared.Posted.the-variants.{Copy, Dec as Decr, IncDec, Nothing}
-use Rattle.model.specs.declared.Call.{Call}
-use Rattle.model.specs.declared.Call.the-variants.{MakeCopy, Receive, Delete, Ask}
+use Rattle.model.specs.declared.Call.the-variants.{MakeCopy, Delete}
 use Rattle.model.specs.Refusals.{_when_, _orElse_}
-use Rattle.model.specs.Questions.{lowest}
-use Rattle.model.specs.Messages.{isNothing, receiver, pointerOf, receiveRefusal}
+use Rattle.model.specs.Messages.{isNothing, receiveRefusal}
 use Rattle.model.specs.Layout.{Layout}
-use Rattle.model.specs.Calls.{lentRefusal, front, lowestEmpty, copyRefusal, deleteRefusal, copyNumber, receiveNumber, deleteNumber, askNumber, counterThere}
+use Rattle.model.specs.Calls.{lentRefusal, front, lowestEmpty, copyNumber, receiveNumber, deleteNumber, counterThere}
 use Rattle.model.specs.Laws.{Laws}
 use Rattle.model.specs.Demands.{Row, _because_, FirstOf, NoSlotEmpty, lentRows, copyRows, deleteRows, rowsOf}
 use Rattle.model.proofs.TestLaws.{true-not-false, when-not, or-else-none}
-use Rattle.model.proofs.QuestionLaws.{lowest-has, lowest-most}
+use Rattle.model.proofs.QuestionLaws.{lowest-has}
 use Rattle.model.proofs.RowLaws.{none-lowest}
 use Rattle.model.proofs.Exactly.{copy-exactly, delete-exactly}
 

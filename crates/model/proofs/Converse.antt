@@ -1,29 +1,26 @@
 -- Demand 2, the converse: where the published machine permits a transition, the desk accepts the call.
-use Prim.Native.Nat.{ℕ, zero, suc, _+_, _≤_, _<_}
-use mathlib.Core.Path.{_≡_, refl, sym, ap, _∙_, subst}
+use Prim.Native.Nat.{ℕ, _≤_, _<_}
+use mathlib.Core.Path.{_≡_, sym, ap, _∙_, subst}
 use mathlib.Core.Logic.{_≢_, _⊎_, inl, inr}
-use mathlib.Core.Bool.{Bool, true, false, not}
+use mathlib.Core.Bool.{true, false, not}
 use mathlib.Core.List.{List, [], _∷_}
-use native.Mathlib.Decide.{ℕ-discrete}
 use native.Mathlib.Omega.{arith}
-use lib.Dec.{leb, ltb, eqb}
 use borrow.Author.Tests.{not-false, eqb-true}
-use Rattle.moreau.specs.StateSpace.{Msg, COPY, DEC, INC-DEC, Msg-discrete, BagOf, ⟅_⟆}
+use Rattle.moreau.specs.StateSpace.{Msg, COPY, DEC, INC-DEC, BagOf, ⟅_⟆}
 use Rattle.moreau.specs.Transformers.{MayCopy, MayReceive, MayDelete}
 use Rattle.moreau.specs.Transitions.{PaperGuard}
-use Rattle.moreau.proofs.Bags.{one-same, one-other}
+use Rattle.moreau.proofs.Bags.{one-same}
 use Rattle.model.specs.declared.Posted.{Posted}
 use Rattle.model.specs.declared.Posted.the-variants.{Copy, Dec as Decr, IncDec, Nothing}
-use Rattle.model.specs.declared.Call.{Call}
-use Rattle.model.specs.declared.Call.the-variants.{MakeCopy, Receive, Delete, Ask}
-use Rattle.model.specs.Refusals.{_when_, _orElse_}
-use Rattle.model.specs.Messages.{isNothing, receiver, pointerOf}
+use Rattle.model.specs.declared.Call.the-variants.{MakeCopy, Receive, Delete}
+use Rattle.model.specs.Refusals.{_when_}
+use Rattle.model.specs.Messages.{isNothing}
 use Rattle.model.specs.Layout.{Layout}
 use Rattle.model.specs.Calls.{lentRefusal, step}
 use Rattle.model.specs.Laws.{Laws}
 use Rattle.model.specs.Flat.{heldRefusal}
 use Rattle.model.specs.Meaning.{meant, configOf, meaning}
-use Rattle.model.specs.Demands.{Row, _because_, FirstOf, NoSlotEmpty, SomeIncDec, lentRows, copyRows, messageRows, receiveRows, deleteRows, askRows, rowsOf}
+use Rattle.model.specs.Demands.{Row, _because_, FirstOf, NoSlotEmpty, SomeIncDec, lentRows, copyRows, messageRows, receiveRows, deleteRows}
 use Rattle.model.proofs.TestLaws.{true-not-false, when-not, or-else-none}
 use Rattle.model.proofs.PoolLaws.{term-in-total}
 use Rattle.model.proofs.Exactly.{call-exactly}

@@ -1,14 +1,14 @@
 -- An accepted make copy is MAKE_COPY of the published machine, and an accepted delete is DELETE.
-use Prim.Native.Nat.{ℕ, _+_, _≤_, _<_}
+use Prim.Native.Nat.{ℕ, _+_, _<_}
 use mathlib.Core.Path.{_≡_, refl, sym, ap, _∙_}
 use mathlib.Core.Logic.{_≢_, _⊎_, inl, inr}
-use mathlib.Core.Bool.{Bool, true, false}
+use mathlib.Core.Bool.{true, false}
 use native.Mathlib.Omega.{arith}
 use borrow.Author.Tests.{eq-eqb}
-use Rattle.moreau.specs.StateSpace.{Msg, COPY, DEC, Config}
-use Rattle.moreau.specs.Transformers.{send-T_≔_, rec-T_≔_, post, MayCopy, MAKE-COPY, MayDelete, DELETE}
+use Rattle.moreau.specs.StateSpace.{COPY, DEC}
+use Rattle.moreau.specs.Transformers.{send-T_≔_, rec-T_≔_, post, DELETE}
 use Rattle.model.specs.declared.Posted.{Posted}
-use Rattle.model.specs.declared.Posted.the-variants.{Copy, Dec as Decr, Nothing}
+use Rattle.model.specs.declared.Posted.the-variants.{Copy, Dec as Decr}
 use Rattle.model.specs.Layout.{Layout}
 use Rattle.model.specs.Calls.{lowestEmpty, copyNumber, copied, deleteNumber, deleted}
 use Rattle.model.specs.Laws.{Laws}

@@ -1,7 +1,7 @@
 -- Document 01, "What the host lends" and "Other edges": the shapes that open and those that give 1. One table, one claim.
 use Prim.Native.Nat.{ℕ, _*_}
 use mathlib.Core.Path.{_≡_, refl}
-use mathlib.Core.Bool.{Bool, true, false, _&&_}
+use mathlib.Core.Bool.{Bool, true, false}
 use mathlib.Core.List.{List, [], _∷_}
 use Rattle.model.specs.Tables.{shapeGood}
 

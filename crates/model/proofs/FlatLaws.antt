@@ -1,28 +1,26 @@
 -- The layout of document 01 keeps the laws of a layout.
-use Prim.Native.Nat.{ℕ, zero, suc, _+_, _*_, _/_, _%_, _≤_, _<_}
-use mathlib.Core.Path.{_≡_, refl, sym, ap, _∙_}
-use mathlib.Core.Bool.{Bool, true, false, _&&_}
+use Prim.Native.Nat.{ℕ, zero, suc, _+_, _*_, _/_, _≤_, _<_}
+use mathlib.Core.Path.{_≡_, refl, sym, _∙_}
+use mathlib.Core.Bool.{true}
 use mathlib.Core.List.{List}
 use native.Mathlib.Decide.{ℕ-discrete}
 use native.Mathlib.Omega.{arith}
-use lib.Dec.{ltb, eqb}
+use lib.Dec.{eqb}
 use lib.ListN.{length, getD, set, replicate, length-set, length-replicate}
-use lib.Seq.{sets, length-sets, getD-set-same, getD-set-other}
+use lib.Seq.{length-sets, getD-set-same, getD-set-other}
 use borrow.Author.Tests.{ltb-true, lt-ltb}
 use Rattle.model.specs.declared.Posted.{Posted}
 use Rattle.model.specs.declared.Posted.the-variants.{Nothing}
 use Rattle.model.specs.Refusals.{_when_}
-use Rattle.model.specs.Questions.{every}
 use Rattle.model.specs.Messages.{slotOf, messageOf}
-use Rattle.model.specs.Layout.{Layout}
 use Rattle.model.specs.Calls.{lentRefusal}
 use Rattle.model.specs.Laws.{withCell, withSlot, Inside, Reads, Laws}
-use Rattle.model.specs.Tables.{Desk, byteBelow, allBelow, atSlot, slotGood, slotsOf, allSlotsGood, messageAt, ownRows}
+use Rattle.model.specs.Tables.{Desk, byteBelow, allBelow, atSlot, slotGood, slotsOf, allSlotsGood}
 use Rattle.model.specs.Flat.{flat, place}
 use Rattle.model.proofs.QuestionLaws.{every-at, every-all}
 use Rattle.model.proofs.PlaceLaws.{place-inside, store-at-place}
 use Rattle.model.proofs.SlotLaws.{store-in-slot, store-keeps-slots-good, good-slot-inside, good-slot-empty}
-use Rattle.model.proofs.ShapeLaws.{Shaped, shaped, Good, good, passes, shaped-desk, length-own-rows, own-rows-at, own-rows-below}
+use Rattle.model.proofs.ShapeLaws.{shaped, good, passes, shaped-desk, length-own-rows, own-rows-at, own-rows-below}
 
 -- ---- bytes below a limit
 byte-below : (n : ℕ) (l : List ℕ) (i : ℕ) → i < length l → allBelow n l ≡ true → getD l i 0 < n

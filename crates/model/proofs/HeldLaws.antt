@@ -1,17 +1,15 @@
 -- Document 01's Held is the published guard on a DEC.
-use Prim.Native.Nat.{ℕ, zero, suc, _+_, _≤_, _<_}
-use mathlib.Core.Path.{_≡_, refl, sym, ap, _∙_}
-use mathlib.Core.Logic.{_≢_}
-use mathlib.Core.Bool.{Bool, true, false, _&&_}
+use Prim.Native.Nat.{ℕ}
+use mathlib.Core.Path.{_≡_, refl, sym, _∙_}
+use mathlib.Core.Bool.{true, false, _&&_}
 use native.Mathlib.Omega.{arith}
 use lib.Dec.{eqb}
 use borrow.Author.Tests.{eq-eqb}
-use Rattle.moreau.specs.StateSpace.{Msg, COPY, DEC, INC-DEC, ⟅_⟆}
+use Rattle.moreau.specs.StateSpace.{COPY, DEC, INC-DEC}
 use Rattle.moreau.specs.Transitions.{PaperGuard}
 use Rattle.moreau.proofs.Bags.{one-other}
 use Rattle.model.specs.declared.Posted.{Posted}
 use Rattle.model.specs.declared.Posted.the-variants.{Copy, Dec as Decr, IncDec, Nothing}
-use Rattle.model.specs.Questions.{some}
 use Rattle.model.specs.Messages.{isIncDec}
 use Rattle.model.specs.Layout.{Layout}
 use Rattle.model.specs.Flat.{heldRefusal}

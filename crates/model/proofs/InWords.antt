@@ -1,17 +1,16 @@
 -- Rows 1 and 2 in words: when lent parts of document 01 are well shaped, and when their tables are good.
-use Prim.Native.Nat.{ℕ, _*_, _/_, _%_, _≤_, _<_}
-use mathlib.Core.Path.{_≡_, refl, sym, _∙_}
+use Prim.Native.Nat.{ℕ, _*_, _/_, _%_, _<_}
+use mathlib.Core.Path.{_≡_}
 use mathlib.Core.Logic.{_↔_}
-use mathlib.Core.Bool.{Bool, true, false, _&&_}
+use mathlib.Core.Bool.{true, _&&_}
 use mathlib.Core.List.{List}
-use lib.Dec.{leb, ltb, eqb}
 use lib.ListN.{length, getD}
-use borrow.Author.Tests.{leb-true, le-leb, ltb-true, lt-ltb, eqb-true, eq-eqb}
+use borrow.Author.Tests.{le-leb, ltb-true, lt-ltb, eq-eqb}
 use Rattle.model.specs.Tables.{Desk, byteBelow, allBelow, atSlot, slotGood, slotsOf, allSlotsGood}
 use Rattle.model.specs.Flat.{flat}
 use Rattle.model.proofs.TestLaws.{and-both}
 use Rattle.model.proofs.QuestionLaws.{every-at, every-all}
-use Rattle.model.proofs.ShapeLaws.{Sized, Shaped, shaped}
+use Rattle.model.proofs.ShapeLaws.{Shaped, shaped}
 
 -- every byte is below n
 Below : ℕ → List ℕ → Type 0

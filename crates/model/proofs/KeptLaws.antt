@@ -1,6 +1,6 @@
 -- What a write keeps, and how the tables of a configuration read.
 use Prim.Native.Nat.{ℕ, _<_}
-use mathlib.Core.Path.{_≡_, refl, sym, ap, _∙_, subst, fun-ext}
+use mathlib.Core.Path.{_≡_, sym, ap, _∙_, subst, fun-ext}
 use mathlib.Core.Bool.{Bool}
 use native.Mathlib.Decide.{ℕ-discrete}
 use lib.Dec.{eqb}

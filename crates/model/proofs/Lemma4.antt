@@ -1,10 +1,9 @@
 -- Lemma 4 on the desk: from an opened desk, the counter of a site that is not the owner is the number of messages that act on it.
 use Prim.Native.Nat.{ℕ, zero, suc, _+_, _<_}
-use mathlib.Core.Path.{_≡_, refl, sym, ap, ap₂, _∙_}
+use mathlib.Core.Path.{_≡_, refl, sym, ap, _∙_}
 use mathlib.Core.Logic.{_≢_}
-use mathlib.Core.Bool.{Bool, true, false, _&&_, cond}
+use mathlib.Core.Bool.{Bool, true, false, _&&_}
 use native.Mathlib.Decide.{ℕ-discrete}
-use native.Mathlib.Omega.{arith}
 use lib.Dec.{eqb}
 use borrow.Author.Tests.{eq-eqb, ne-eqb}
 use Rattle.moreau.specs.StateSpace.{Msg, COPY, DEC, INC-DEC, pointer, BagOf, ∅, ⟅_⟆}
@@ -20,7 +19,7 @@ use Rattle.model.specs.Questions.{total}
 use Rattle.model.specs.Layout.{Layout}
 use Rattle.model.specs.Laws.{Inside, Laws}
 use Rattle.model.specs.Survey.{inFlight}
-use Rattle.model.specs.Meaning.{meant, configOf, meaning}
+use Rattle.model.specs.Meaning.{meant, configOf}
 use Rattle.model.specs.Demands.{controls, Reached}
 use Rattle.model.proofs.TestLaws.{and-false}
 use Rattle.model.proofs.PoolLaws.{total-same}

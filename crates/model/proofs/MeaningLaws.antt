@@ -1,12 +1,11 @@
 -- Each write of a lawful layout, on what the memory means.
-use Prim.Native.Nat.{ℕ, zero, suc, _+_, _-_, _≤_, _<_}
+use Prim.Native.Nat.{ℕ, _+_, _-_, _≤_, _<_}
 use mathlib.Core.Path.{_≡_, refl, sym, ap, _∙_, fun-ext}
-use mathlib.Core.Logic.{_≢_}
 use mathlib.Core.Bool.{Bool, true, false, _&&_, cond}
 use native.Mathlib.Decide.{ℕ-discrete}
 use native.Mathlib.Omega.{arith}
 use lib.Dec.{ltb, eqb}
-use borrow.Author.Tests.{eq-eqb, ne-eqb, ltb-true, lt-ltb}
+use borrow.Author.Tests.{ne-eqb, ltb-true, lt-ltb}
 use Rattle.moreau.specs.StateSpace.{Msg, COPY, DEC, INC-DEC, BagOf, Config, _∪_, _∖_, initial}
 use Rattle.moreau.specs.Transformers.{assign, send-T_≔_, rec-T_≔_, post, unpost}
 use Rattle.moreau.proofs.Tables.{assign-here, assign-site, assign-pointer}
@@ -16,9 +15,8 @@ use Rattle.model.specs.Refusals.{_when_}
 use Rattle.model.specs.Questions.{total}
 use Rattle.model.specs.Layout.{Layout}
 use Rattle.model.specs.Calls.{lentRefusal}
-use Rattle.model.specs.Laws.{Frame, withCell, withSlot, Inside, frame, Reads, Laws}
+use Rattle.model.specs.Laws.{Frame, withCell, withSlot, Inside, Reads, Laws}
 use Rattle.model.specs.Meaning.{meant, within, configOf, meaning}
-use Rattle.model.proofs.TestLaws.{and-false}
 use Rattle.model.proofs.PlaceLaws.{changed-cell, cell-of-other-site, cell-of-other-pointer}
 use Rattle.model.proofs.PoolLaws.{total-same, total-of-zeros, term-in-total, total-with-slot}
 

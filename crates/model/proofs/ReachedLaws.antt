@@ -7,7 +7,7 @@ use Rattle.moreau.specs.Transitions.{Guard, PaperGuard, Reachable, begin, step 
 use Rattle.model.specs.declared.Posted.the-variants.{Dec as Decr}
 use Rattle.model.specs.declared.Call.{Call}
 use Rattle.model.specs.declared.Call.the-variants.{MakeCopy, Receive, Delete, Ask}
-use Rattle.model.specs.Refusals.{_when_, _orElse_}
+use Rattle.model.specs.Refusals.{_when_}
 use Rattle.model.specs.Answers.{Outcome, unless}
 use Rattle.model.specs.Layout.{Layout}
 use Rattle.model.specs.Calls.{lentRefusal, openRefusal, openDesk, copyNumber, copied, makeCopy, receiveNumber, received, receive, deleteNumber, deleted, delete, step}
@@ -17,7 +17,6 @@ use Rattle.model.specs.Meaning.{configOf, meaning}
 use Rattle.model.specs.Demands.{Reached, opened, called}
 use Rattle.model.proofs.TestLaws.{when-not, or-else-none}
 use Rattle.model.proofs.MeaningLaws.{opening-means}
-use Rattle.model.proofs.KeptLaws.{Kept}
 use Rattle.model.proofs.Demand1.{ask-changes-nothing}
 use Rattle.model.proofs.CopyAndDelete.{copy-is-MAKE-COPY, delete-is-DELETE}
 use Rattle.model.proofs.ReceiveTransition.{receive-is-RECEIVE}

@@ -5,7 +5,6 @@ use mathlib.Core.Logic.{_≢_}
 use mathlib.Core.Bool.{false}
 use native.Mathlib.Decide.{ℕ-discrete}
 use native.Mathlib.Omega.{arith}
-use lib.Dec.{eqb}
 use borrow.Author.Tests.{eq-eqb, ne-eqb}
 use Rattle.model.specs.declared.Posted.{Posted}
 use Rattle.model.specs.declared.Posted.the-variants.{Copy, Dec as Decr, IncDec, Nothing}

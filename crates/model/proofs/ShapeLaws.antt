@@ -1,17 +1,16 @@
 -- What lent tables say that pass 1 and 2, and what an opening writes.
 use Prim.Native.Nat.{ℕ, zero, suc, _+_, _*_, _/_, _%_, _≤_, _<_}
-use mathlib.Core.Path.{_≡_, refl, sym, ap, _∙_}
-use mathlib.Core.Bool.{Bool, true, false, _&&_, not, cond}
-use mathlib.Core.List.{List, [], _∷_, _++_, map}
+use mathlib.Core.Path.{_≡_, refl, _∙_}
+use mathlib.Core.Bool.{Bool, true, false, not}
+use mathlib.Core.List.{List, [], _∷_, _++_}
 use mathlib.Core.Logic.{⊎-elim}
 use native.Mathlib.Nat.{suc-mul, not-suc-le-zero, eq-or-lt-of-le, le-of-suc-le-suc}
 use native.Mathlib.Omega.{arith}
-use lib.Dec.{leb, ltb, eqb}
-use lib.ListN.{length, getD, replicate, length-append, length-map, List·getD-append}
+use lib.Dec.{eqb}
+use lib.ListN.{length, getD, length-append, length-map, List·getD-append}
 use lib.Seq.{getD-append-add}
 use borrow.Author.Tests.{leb-true, eqb-true, not-false, lt-ltb}
-use Rattle.model.specs.Refusals.{_when_, _orElse_}
-use Rattle.model.specs.Questions.{every}
+use Rattle.model.specs.Refusals.{_when_}
 use Rattle.model.specs.Calls.{lentRefusal}
 use Rattle.model.specs.Tables.{Desk, sizesGood, lengthsGood, shapeGood, allBelow, allSlotsGood, byteBelow, ownRow, ownRows}
 use Rattle.model.specs.Flat.{flat, place}

@@ -1,16 +1,15 @@
 -- The public share of a site, from the slots, is the machine's X less Y.
 use Prim.Native.Nat.{ℕ, zero, suc, _+_, _-_, _≤_, _<_}
-use mathlib.Core.Path.{_≡_, refl, sym, ap, ap₂, _∙_}
-use mathlib.Core.Logic.{_≢_}
-use mathlib.Core.Bool.{Bool, true, false, _&&_}
+use mathlib.Core.Path.{_≡_, refl, sym, ap, _∙_}
+use mathlib.Core.Bool.{Bool, _&&_}
 use native.Mathlib.Decide.{ℕ-discrete}
 use native.Mathlib.Omega.{arith}
 use lib.Dec.{eqb}
 use borrow.Author.Tests.{eq-eqb, ne-eqb}
-use Rattle.moreau.specs.StateSpace.{Msg, COPY, DEC, INC-DEC, INT, ⟅_⟆, Config}
+use Rattle.moreau.specs.StateSpace.{Msg, COPY, DEC, INC-DEC, INT, ⟅_⟆}
 use Rattle.moreau.specs.Counts.{∑, X, Y}
 use Rattle.moreau.proofs.Bags.{one-same, one-other}
-use Rattle.moreau.proofs.Sums.{∑-add, ∑-zero, ∑-pick, ∑-ext}
+use Rattle.moreau.proofs.Sums.{∑-add, ∑-zero, ∑-pick}
 use Rattle.model.specs.declared.Posted.{Posted}
 use Rattle.model.specs.declared.Posted.the-variants.{Copy, Dec as Decr, IncDec, Nothing}
 use Rattle.model.specs.Refusals.{_when_}
@@ -18,9 +17,8 @@ use Rattle.model.specs.Questions.{total}
 use Rattle.model.specs.Layout.{Layout}
 use Rattle.model.specs.Calls.{lentRefusal}
 use Rattle.model.specs.Laws.{Inside, Laws}
-use Rattle.model.specs.Survey.{copies, decs, incDecs, inFlight, sharePlus, shareMinus}
+use Rattle.model.specs.Survey.{copies, decs, incDecs, sharePlus, shareMinus}
 use Rattle.model.specs.Meaning.{meant, configOf, meaning}
-use Rattle.model.proofs.TestLaws.{and-false}
 use Rattle.model.proofs.PoolLaws.{total-same}
 use Rattle.model.proofs.KeptLaws.{holds}
 

@@ -2,14 +2,14 @@
 use Prim.Native.Nat.{ℕ, zero, suc, _+_, _-_, _≤_, _<_}
 use mathlib.Core.Path.{_≡_, refl, sym, ap, ap₂, _∙_}
 use mathlib.Core.Logic.{_≢_}
-use mathlib.Core.Bool.{Bool, true, false, cond}
+use mathlib.Core.Bool.{cond}
 use native.Mathlib.Decide.{ℕ-discrete}
 use native.Mathlib.Omega.{arith}
 use lib.Dec.{eqb}
 use lib.IntN.{ℤ, pos, _+ℤ_, _-ℤ_, +ℤ-negℤ-cancel, pos-+ℤ-pos}
 use borrow.Author.Tests.{eq-eqb, ne-eqb, lt-ltb}
 use Rattle.moreau.specs.Transitions.{Guard, WeakGuard, _implies_}
-use Rattle.moreau.specs.Counts.{_unless_is_, ∑, ∑other, X, Y}
+use Rattle.moreau.specs.Counts.{_unless_is_, ∑, X, Y}
 use Rattle.moreau.proofs.Counters.{share-never-negative, owner-counter-is-sum-of-shares}
 use Rattle.model.specs.Layout.{Layout}
 use Rattle.model.specs.Calls.{front}

@@ -1,8 +1,8 @@
 -- A message stored in a slot reads back, and every other slot reads as before.
-use Prim.Native.Nat.{ℕ, zero, suc, _+_, _*_, _/_, _≤_, _<_}
-use mathlib.Core.Path.{_≡_, refl, sym, ap, _∙_}
+use Prim.Native.Nat.{ℕ, zero, suc, _+_, _*_, _≤_, _<_}
+use mathlib.Core.Path.{_≡_, refl, sym, _∙_}
 use mathlib.Core.Logic.{_≢_}
-use mathlib.Core.Bool.{Bool, true, false, _&&_, cond}
+use mathlib.Core.Bool.{Bool, true, _&&_, cond}
 use mathlib.Core.List.{List, [], _∷_}
 use native.Mathlib.Decide.{ℕ-discrete, decLt}
 use native.Mathlib.Nat.{not-suc-le-zero, add-zero}
@@ -10,14 +10,13 @@ use native.Mathlib.Omega.{arith}
 use lib.Dec.{eqb, leb, ltb}
 use lib.ListN.{length, getD, set, length-set}
 use lib.Seq.{sets, length-sets, getD-set-same, getD-set-other}
-use borrow.Author.Tests.{eqb-true, eq-eqb, ne-eqb, leb-true, ltb-true, lt-ltb}
+use borrow.Author.Tests.{ne-eqb, leb-true, ltb-true, lt-ltb}
 use Rattle.model.specs.declared.Posted.{Posted}
 use Rattle.model.specs.declared.Posted.the-variants.{Copy, Dec as Decr, IncDec, Nothing}
-use Rattle.model.specs.Questions.{every}
 use Rattle.model.specs.Messages.{slotOf, messageOf, isNothing}
 use Rattle.model.specs.Laws.{withSlot, Inside}
 use Rattle.model.specs.Tables.{atSlot, slotGood, slotsOf, allSlotsGood, messageAt}
-use Rattle.model.proofs.TestLaws.{and-both, true-not-false}
+use Rattle.model.proofs.TestLaws.{and-both}
 use Rattle.model.proofs.QuestionLaws.{every-at, every-all}
 use Rattle.model.proofs.PlaceLaws.{changed-slot, other-slot}
 

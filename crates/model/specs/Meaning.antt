@@ -1,6 +1,6 @@
 -- What lent memory means: a configuration of the published machine, over any layout.
-use Prim.Native.Nat.{ℕ, _+_}
-use mathlib.Core.Bool.{Bool, _&&_, cond}
+use Prim.Native.Nat.{ℕ}
+use mathlib.Core.Bool.{_&&_, cond}
 use lib.Dec.{ltb, eqb}
 use Rattle.moreau.specs.StateSpace.{Msg, COPY, DEC, INC-DEC, BagOf, ∅, ⟅_⟆, Config}
 use Rattle.model.specs.declared.Posted.{Posted}
