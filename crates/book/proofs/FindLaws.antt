@@ -9,12 +9,11 @@ use lib.ListN.{length, getD, take, drop}
 use borrow.Author.Tests.{le-leb, lt-leb, eqb-true, eq-eqb}
 use Rattle.model.specs.Questions.{some, lowest}
 use Rattle.model.proofs.TestLaws.{and-both}
-use Rattle.model.proofs.QuestionLaws.{some-more, some-done}
+use Rattle.model.proofs.QuestionLaws.{some-more, some-done, some-there, some-lowest, lowest-same}
 use Rattle.book.specs.Book.{entryAt, addressOf, isBook, same, has, twinBelow, twins}
 use Rattle.book.specs.Walk.{entryEnd, walked, holds, meets}
 use Rattle.book.proofs.SameLaws.{same-equal, same-self}
 use Rattle.book.proofs.EntryLaws.{walked-entry, entry-end-after, entry-end-part, entry-end-inside}
-use Rattle.book.proofs.MoreQuestionLaws.{some-at, some-lowest, lowest-same}
 
 -- ---- what it says that a pointer has an owner and an address
 module _ (owners book : List ℕ) (owner : ℕ) (address : List ℕ) (p : ℕ) where
@@ -82,7 +81,7 @@ module _ (owners book : List ℕ) (g : ℕ) (good : isBook g book ≡ true) wher
 module _ (owners book : List ℕ) (p : ℕ) where
   pub twin-found : p < length owners → twinBelow owners book p ≡ true → true ≡ twins owners book
   unfolding twins
-  twin-found l e = sym (some-at (twinBelow owners book) (length owners) p l e)
+  twin-found l e = sym (some-there (twinBelow owners book) (length owners) p l e)
 
   pub twin-none : some p (twinBelow owners book) ≡ false → twinBelow owners book p ≡ false → some (p + 1) (twinBelow owners book) ≡ false
   twin-none e f = sym (some-more (twinBelow owners book) p (sym e)) ∙ f

@@ -10,10 +10,9 @@ use Rattle.model.specs.declared.Answer.{Answer}
 use Rattle.model.specs.Refusals.{NotListed}
 use Rattle.model.specs.Questions.{some, lowest}
 use Rattle.model.specs.Answers.{accepted, refused}
-use Rattle.model.proofs.QuestionLaws.{lowest-has}
+use Rattle.model.proofs.QuestionLaws.{lowest-has, some-there, lowest-low, lowest-nowhere}
 use Rattle.book.specs.Part.{Part}
 use Rattle.book.specs.Book.{entryAt, addressOf, has, bookRefusal, addressNumber, addressPart, searchNumber, searchAnswer}
-use Rattle.book.proofs.MoreQuestionLaws.{some-at, lowest-low, lowest-nowhere}
 use Rattle.book.proofs.EntryLaws.{entry-long, address-long}
 use Rattle.book.proofs.AnswerLaws.{refused-answer, answered-accepted, answered-number}
 use Rattle.book.proofs.RefusalLaws.{book-passes, address-given, search-nowhere, search-passes, search-most}
@@ -55,7 +54,7 @@ module _ (s : ℕ) (owners book : List ℕ) (owner : ℕ) (wanted : List ℕ) wh
       omega (
         arith,
         search-most s owners book owner wanted
-            (some-at (has owners book owner wanted) (length owners) p l (both-has owners book owner wanted p owned named)),
+            (some-there (has owners book owner wanted) (length owners) p l (both-has owners book owner wanted p owned named)),
       )
 
   -- and wherever no pointer has both, once 1, 2, 18 and 3 are passed

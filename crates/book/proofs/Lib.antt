@@ -1,7 +1,5 @@
 -- What is true of a book.
--- Laws for the proofs of the functions; the first three speak of model's definitions alone.
-pub mod MoreQuestionLaws
-pub mod OrderLaws
+-- Laws for the proofs of the functions.
 pub mod OwnerLaws
 pub mod SameLaws
 pub mod EntryLaws

@@ -4,12 +4,11 @@ use mathlib.Core.Path.{_≡_}
 use mathlib.Core.Bool.{true, not}
 use mathlib.Core.List.{List}
 use lib.ListN.{length, getD}
-use borrow.Author.Tests.{ltb-true, not-false}
+use borrow.Author.Tests.{not-false}
 use Rattle.model.specs.Refusals.{_when_}
-use Rattle.model.specs.Tables.{sizesGood, byteBelow, allBelow, ownersRefusal}
+use Rattle.model.specs.Tables.{sizesGood, allBelow, ownersRefusal}
 use Rattle.model.proofs.TestLaws.{when-not, or-else-none}
-use Rattle.model.proofs.QuestionLaws.{every-at}
-use Rattle.model.proofs.ShapeLaws.{sized}
+use Rattle.model.proofs.ShapeLaws.{sized, byte-below}
 
 owners-pass : (s : ℕ) (owners : List ℕ) → ownersRefusal s owners ≡ 0 → (sizesGood s (length owners) ≡ true) × (allBelow s owners ≡ true)
 unfolding ownersRefusal
@@ -22,5 +21,4 @@ pub owners-few : (s : ℕ) (owners : List ℕ) → ownersRefusal s owners ≡ 0 
 owners-few s owners e = sized s (length owners) (owners-pass s owners e .0) .few-pointers
 
 pub owner-inside : (s : ℕ) (owners : List ℕ) → ownersRefusal s owners ≡ 0 → (p : ℕ) → p < length owners → getD owners p 0 < s
-unfolding allBelow
-owner-inside s owners e p l = ltb-true _ _ (every-at (byteBelow s owners) (length owners) p l (owners-pass s owners e .1))
+owner-inside s owners e p l = byte-below s owners p l (owners-pass s owners e .1)

@@ -10,11 +10,10 @@ use borrow.Author.Tests.{ltb-true, lt-ltb, le-ltb, eq-eqb, ne-eqb, not-false}
 use Rattle.model.specs.Refusals.{_when_, _orElse_}
 use Rattle.model.specs.Questions.{some, lowest}
 use Rattle.model.specs.Tables.{sizesGood, allBelow, ownersRefusal}
-use Rattle.model.proofs.TestLaws.{when-not, or-else-none}
+use Rattle.model.proofs.TestLaws.{when-not, or-else-none, or-else-most, when-most}
 use Rattle.book.specs.Book.{entryAt, isBook, has, twins, bookRefusal, addressNumber, checkNumber, searchNumber}
 use Rattle.book.specs.Walk.{walked, entryPlace}
-use Rattle.book.proofs.MoreQuestionLaws.{some-lowest}
-use Rattle.book.proofs.OrderLaws.{or-else-most, when-most}
+use Rattle.model.proofs.QuestionLaws.{some-lowest}
 use Rattle.book.proofs.EntryLaws.{walked-all}
 
 module _ (s : ℕ) (owners book : List ℕ) where

@@ -9,9 +9,8 @@ use lib.Seq.{ext-getD}
 use borrow.Author.Tests.{eqb-true, eq-eqb, ne-eqb}
 use Rattle.model.specs.Questions.{every}
 use Rattle.model.proofs.TestLaws.{and-both}
-use Rattle.model.proofs.QuestionLaws.{every-more, every-done, every-at, every-all}
+use Rattle.model.proofs.QuestionLaws.{every-more, every-done, every-at, every-all, every-not}
 use Rattle.book.specs.Book.{sameAt, same}
-use Rattle.book.proofs.MoreQuestionLaws.{every-not}
 
 -- ---- what a loop over the bytes finds: lengths that differ, a byte that differs, none
 pub same-lengths : (a b : List ℕ) → (length a ≡ length b → ⊥) → false ≡ same a b

@@ -11,9 +11,8 @@ use Rattle.model.specs.declared.Answer.{Answer}
 use Rattle.model.specs.Refusals.{Twins}
 use Rattle.model.specs.Questions.{lowest}
 use Rattle.model.specs.Answers.{accepted, refused}
-use Rattle.model.proofs.QuestionLaws.{some-none, lowest-has}
+use Rattle.model.proofs.QuestionLaws.{some-none, lowest-has, some-lowest, some-has, lowest-low}
 use Rattle.book.specs.Book.{addressOf, has, twinBelow, twins, bookRefusal, checkNumber, checkAnswer, searchNumber, searchAnswer}
-use Rattle.book.proofs.MoreQuestionLaws.{some-lowest, some-has, lowest-low}
 use Rattle.book.proofs.OwnerLaws.{owner-inside}
 use Rattle.book.proofs.AnswerLaws.{accepted-answer, answered-accepted, answered-number}
 use Rattle.book.proofs.RefusalLaws.{book-passes, check-not-passed, check-passes, search-found}

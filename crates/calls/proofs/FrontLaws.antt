@@ -1,25 +1,17 @@
 -- What a call knows once 1, 2 and 3 are not given.
 use Prim.Native.Nat.{ℕ, _≤_, _<_}
 use mathlib.Core.Path.{_≡_, sym, _∙_}
-use mathlib.Core.Bool.{Bool, true, _&&_, not}
+use mathlib.Core.Bool.{Bool, true, _&&_}
 use lib.Dec.{ltb}
 use lib.ListN.{length}
-use borrow.Author.Tests.{not-false, ltb-true}
-use Rattle.model.specs.Refusals.{BadName, _when_}
-use Rattle.model.specs.Layout.{Layout}
+use borrow.Author.Tests.{ltb-true}
 use Rattle.model.specs.Calls.{lentRefusal, front}
 use Rattle.model.specs.Tables.{Desk, slotsOf}
 use Rattle.model.specs.Flat.{flat, place}
-use Rattle.model.proofs.TestLaws.{when-not, or-else-none, and-both}
+use Rattle.model.proofs.TestLaws.{and-both}
+use Rattle.model.proofs.FrontLaws.{front-passed}
 use Rattle.model.proofs.PlaceLaws.{place-inside}
 use Rattle.model.proofs.ShapeLaws.{shaped-desk}
-
--- what is lent is good, and the call's names are in range
-pub front-passed : {D : Type 0} (L : Layout D) (d : D) (named : Bool) → front L d named ≡ 0 → (lentRefusal L d ≡ 0) × (named ≡ true)
-unfolding front
-front-passed L d named e =
-    let q = or-else-none (lentRefusal L d) (BadName when not named) e in
-    (q .0, not-false named (when-not 2 (not named) (q .1)))
 
 -- a site and a pointer in range name a cell of both tables
 pub record Ready (d : Desk) (s p : ℕ) : Type 0 where

@@ -12,14 +12,14 @@ use Rattle.model.specs.declared.Posted.{Posted}
 use Rattle.model.specs.Refusals.{EmptySlot, _when_, _orElse_}
 use Rattle.model.specs.Messages.{slotOf, receiver, pointerOf, receiveRefusal, counterAfter, cellAfter, reply}
 use Rattle.model.specs.Answers.{accepted, unless}
-use Rattle.model.specs.Calls.{lentRefusal, front, counterThere, receiveNumber, received, receive}
+use Rattle.model.specs.Calls.{heldRefusal, lentRefusal, front, counterThere, receiveNumber, received, receive}
 use Rattle.model.specs.Tables.{Desk, lent, slotsOf, emptyAt, messageAt}
-use Rattle.model.specs.Flat.{flat, place, heldRefusal}
-use Rattle.model.proofs.TestLaws.{when-not, or-else-none}
-use Rattle.model.proofs.RowLaws.{or-else-assoc}
+use Rattle.model.specs.Flat.{flat, place}
+use Rattle.model.proofs.TestLaws.{when-not, or-else-none, or-else-assoc}
 use Rattle.model.proofs.ReplyLaws.{inside-there}
 use Rattle.model.proofs.FlatLaws.{flat-laws}
-use Rattle.calls.proofs.FrontLaws.{front-passed, Ready, ready}
+use Rattle.model.proofs.FrontLaws.{front-passed}
+use Rattle.calls.proofs.FrontLaws.{Ready, ready}
 
 module _ (d : Desk) (slot : ℕ) where
   -- 1, 2, 3, 8; then 9 and the message's own

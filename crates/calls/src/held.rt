@@ -7,7 +7,7 @@ ghost use mathlib.Core.Path.{_≡_};
 ghost use Rattle.model.specs.Questions.{some};
 ghost use Rattle.model.specs.Messages.{isIncDec};
 ghost use Rattle.model.specs.Tables.{slotsOf, messageAt};
-ghost use Rattle.model.specs.Flat.{heldRefusal};
+ghost use Rattle.model.specs.Calls.{heldRefusal};
 
 // Whether some slot holds an INC_DEC from a to b for pointer p, with any third site.
 fn held(pool: &[u8], a: u8, b: u8, p: u8) -> bool

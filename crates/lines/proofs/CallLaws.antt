@@ -7,7 +7,7 @@ use native.Mathlib.Omega.{arith}
 use lib.Dec.{leb, ltb, eqb}
 use lib.ListN.{length}
 use borrow.Author.Tests.{lt-ltb, eq-eqb, ltb-true, leb-false, eqb-true, eqb-false, not-false}
-use Rattle.model.proofs.TestLaws.{and-both, or-neither, when-not, or-else-none}
+use Rattle.model.proofs.TestLaws.{and-both, or-neither, when-not, or-else-none, or-else-assoc}
 use Rattle.model.specs.declared.Call.{Call}
 use Rattle.model.specs.declared.Read.the-variants.{Said, Refused}
 use Rattle.model.specs.Refusals.{BadLine, UnknownCode, PrivateCode, _when_, _orElse_}
@@ -19,10 +19,6 @@ unknown code = eqb code 0 || leb 5 code && leb code 127
 
 abbrev pub unended : ℕ → ℕ → Bool
 unended code c = leb 2 code && leb code 4 && not (eqb c 0)
-
-or-else-assoc : (m n k : ℕ) → (m orElse n) orElse k ≡ m orElse (n orElse k)
-or-else-assoc zero n k = refl
-or-else-assoc (suc m) n k = refl
 
 module _ (code a b c : ℕ) where
   -- all four pairs of characters are bytes

@@ -16,6 +16,7 @@ use Rattle.model.specs.Messages.{slotOf}
 use Rattle.model.specs.Answers.{refused}
 use Rattle.model.specs.Lines.{newline, digitsOf, lineOf, writeCall}
 use Rattle.model.specs.Transcript.{answerBytes, answerLine}
+use Rattle.model.proofs.SlotLaws.{five-bytes}
 use Rattle.lines.proofs.DigitLaws.{length-digits}
 
 -- a store after a store is one store
@@ -48,21 +49,22 @@ newline-after text later bytes at e =
     ap (λ (l : List ℕ). set l (at + length bytes * 2) newline) e
     ∙ sets-then (digitsOf bytes) text (newline ∷ []) at (at + length bytes * 2) (omega (arith, length-digits bytes))
 
--- the bytes of an answer, by its posted message
-pub bytes-by-posted : (a : Answer) (m : Posted) → a .posted ≡ m → a .number ∷ a .value / 256 ∷ a .value % 256 ∷ slotOf m ≡ answerBytes a
-bytes-by-posted a m e = rw e
+-- the bytes of an answer, the slot's one by one
+five-by-one : (m : Posted) → let l = slotOf m in getD l 0 0 ∷ getD l 1 0 ∷ getD l 2 0 ∷ getD l 3 0 ∷ getD l 4 0 ∷ [] ≡ l
+five-by-one (Copy from to p) = refl
+five-by-one (Dec from to p) = refl
+five-by-one (IncDec from to third p) = refl
+five-by-one Nothing = refl
+
+pub bytes-by-slot : (a : Answer) {l : List ℕ} → l ≡ slotOf (a .posted)
+    → a .number ∷ a .value / 256 ∷ a .value % 256 ∷ getD l 0 0 ∷ getD l 1 0 ∷ getD l 2 0 ∷ getD l 3 0 ∷ getD l 4 0 ∷ [] ≡ answerBytes a
+bytes-by-slot a e = rw (e, five-by-one (a .posted))
 
 -- an answer line has 17 characters
-length-slot : (m : Posted) → length (slotOf m) ≡ 5
-length-slot (Copy from to p) = refl
-length-slot (Dec from to p) = refl
-length-slot (IncDec from to third p) = refl
-length-slot Nothing = refl
-
 pub length-answer-line : (a : Answer) → length (answerLine a) ≡ 17
 unfolding answerLine
 length-answer-line a =
-    length-append (digitsOf (answerBytes a)) (newline ∷ []) ∙ omega (arith, length-digits (answerBytes a), length-slot (a .posted))
+    length-append (digitsOf (answerBytes a)) (newline ∷ []) ∙ omega (arith, length-digits (answerBytes a), five-bytes (a .posted))
 
 -- ---- the two outcomes of a written call
 module _ (text : List ℕ) (call : Call) {r : Answer} where

@@ -5,6 +5,7 @@ use model::Call;
 use model::Posted;
 use rules::answer::accepted;
 use rules::answer::refused;
+use rules::message::slot_bytes;
 ghost use mathlib.Core.Path.{_≡_};
 ghost use mathlib.Core.List.{[], _∷_, _++_};
 ghost use Prim.Native.Nat.{_+_, _*_, _≤_};
@@ -51,17 +52,13 @@ fn answer_bytes(answer: Answer) -> [u8; 8]
     let high = (answer.value / 256) as u8;
     let low = (answer.value % 256) as u8;
     let posted = answer.posted;
-    match posted {
-        Posted::Copy { from, to, pointer } => [number, high, low, 1, from, to, 0, pointer],
-        Posted::Dec { from, to, pointer } => [number, high, low, 2, from, to, 0, pointer],
-        Posted::IncDec {
-            from,
-            to,
-            third,
-            pointer,
-        } => [number, high, low, 3, from, to, third, pointer],
-        Posted::Nothing => [number, high, low, 0, 0, 0, 0, 0],
-    }
+    let slot = slot_bytes(posted);
+    let kind = slot[0];
+    let from = slot[1];
+    let to = slot[2];
+    let third = slot[3];
+    let pointer = slot[4];
+    [number, high, low, kind, from, to, third, pointer]
 }
 
 // The line of an answer, 16 digits and a newline, at a place of a text.

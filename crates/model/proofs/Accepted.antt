@@ -2,23 +2,23 @@
 use Prim.Native.Nat.{ℕ, suc, _≤_, _<_}
 use mathlib.Core.Path.{_≡_, refl, sym, _∙_}
 use mathlib.Core.Logic.{_≢_, _⊎_, inl, inr}
-use mathlib.Core.Bool.{Bool, true, false, not}
+use mathlib.Core.Bool.{Bool, true, false}
 use mathlib.Core.List.{List, _∷_}
 use native.Mathlib.Decide.{ℕ-discrete, decLt}
 use native.Mathlib.Omega.{arith}
 use lib.Dec.{ltb}
-use borrow.Author.Tests.{le-leb, ltb-true, not-false}
+use borrow.Author.Tests.{le-leb, ltb-true}
 use Rattle.model.specs.declared.Posted.{Posted}
 use Rattle.model.specs.declared.Posted.the-variants.{Copy, Dec as Decr, IncDec, Nothing}
-use Rattle.model.specs.declared.Call.the-variants.{MakeCopy, Delete}
-use Rattle.model.specs.Refusals.{_when_, _orElse_}
+use Rattle.model.specs.Refusals.{_when_}
 use Rattle.model.specs.Messages.{isNothing, receiveRefusal}
 use Rattle.model.specs.Layout.{Layout}
 use Rattle.model.specs.Calls.{lentRefusal, front, lowestEmpty, copyNumber, receiveNumber, deleteNumber, counterThere}
 use Rattle.model.specs.Laws.{Laws}
-use Rattle.model.specs.Demands.{Row, _because_, FirstOf, NoSlotEmpty, lentRows, copyRows, deleteRows, rowsOf}
+use Rattle.model.specs.Demands.{Row, _because_, FirstOf, NoSlotEmpty, LowestEmpty, lentRows, copyRows, deleteRows}
 use Rattle.model.proofs.TestLaws.{true-not-false, when-not, or-else-none}
-use Rattle.model.proofs.QuestionLaws.{lowest-has}
+use Rattle.model.proofs.FrontLaws.{front-passed}
+use Rattle.model.proofs.QuestionLaws.{lowest-has, lowest-below}
 use Rattle.model.proofs.RowLaws.{none-lowest}
 use Rattle.model.proofs.Exactly.{copy-exactly, delete-exactly}
 
@@ -45,19 +45,23 @@ nothing-there Nothing e = refl
 module _ {D : Type 0} (L : Layout D) (W : Laws L) where
   open Layout L using (sites, pointers, owner, counter, cell, slots, empty, message, shaped, sound, early)
 
-  -- the lowest empty slot is one, and it holds no message
+  -- there is a lowest empty slot, and it holds no message
   pub record Room (d : D) : Type 0 where
     pub in-pool : lowestEmpty L d < slots d
+    pub lowest-empty : LowestEmpty L d (lowestEmpty L d)
     pub unused : message d (lowestEmpty L d) ≡ Nothing
 
   room : (d : D) → lentRefusal L d ≡ 0 → (NoSlotEmpty L d → ⊥) → Room d
   room d good some-empty = go (decLt (lowestEmpty L d) (slots d))
     where
       go : Dec (lowestEmpty L d < slots d) → Room d
-      go (yes l) = record {
-        in-pool = l;
-        unused = nothing-there _ (sym (W .empties d good (lowestEmpty L d) l) ∙ lowest-has (empty d) 0 (slots d) (omega arith));
-      }
+      go (yes l) =
+          let there = lowest-has (empty d) 0 (slots d) (omega arith) in
+          record {
+            in-pool = l;
+            lowest-empty = record { in-pool = l; empty-there = there; none-below = λ lower ll. lowest-below (empty d) 0 (slots d) lower (omega arith) ll };
+            unused = nothing-there _ (sym (W .empties d good (lowestEmpty L d) l) ∙ there);
+          }
       go (no l) = absurd (some-empty (none-lowest (empty d) (slots d) (le-leb (slots d) (lowestEmpty L d) (omega arith))))
 
   -- 1 and 2 do not hold
@@ -84,7 +88,7 @@ module _ {D : Type 0} (L : Layout D) (W : Laws L) where
 
   pub copy-accepted : (d : D) (from to p : ℕ) → copyNumber L d from to p ≡ 0 → Copied d from to p
   copy-accepted d from to p e =
-      let f0 : FirstOf (rowsOf L d (MakeCopy from to p)) 0 = rw e at (copy-exactly L d from to p) in
+      let f0 : FirstOf (lentRows L d (copyRows L d from to p)) 0 = rw e at (copy-exactly L d from to p) in
       let f1 = lent-good d (copyRows L d from to p) f0 in
       let f3 = first-fails 2 ((sites d ≤ from) ⊎ ((sites d ≤ to) ⊎ (pointers d ≤ p))) _ (f1 .1) in
       let f4 = first-fails 3 (from ≡ to) _ (f3 .1) in
@@ -123,7 +127,7 @@ module _ {D : Type 0} (L : Layout D) (W : Laws L) where
 
   pub delete-accepted : (d : D) (site p : ℕ) → deleteNumber L d site p ≡ 0 → Deleted d site p
   delete-accepted d site p e =
-      let f0 : FirstOf (rowsOf L d (Delete site p)) 0 = rw e at (delete-exactly L d site p) in
+      let f0 : FirstOf (lentRows L d (deleteRows L d site p)) 0 = rw e at (delete-exactly L d site p) in
       let f1 = lent-good d (deleteRows L d site p) f0 in
       let f3 = first-fails 2 ((sites d ≤ site) ⊎ (pointers d ≤ p)) _ (f1 .1) in
       let f11 = first-fails 10 (site ≡ owner d p) _ (f3 .1) in
@@ -161,13 +165,13 @@ module _ {D : Type 0} (L : Layout D) (W : Laws L) where
     pub own : receiveRefusal (message d slot) (counterThere L d slot) ≡ 0
 
   pub receive-accepted : (d : D) (slot : ℕ) → receiveNumber L d slot ≡ 0 → Received d slot
-  unfolding receiveNumber front
+  unfolding receiveNumber
   receive-accepted d slot e =
-      let a = or-else-none (lentRefusal L d orElse 3 when not (ltb slot (slots d))) _ e in
-      let b = or-else-none (lentRefusal L d) (3 when not (ltb slot (slots d))) (a .0) in
+      let a = or-else-none (front L d (ltb slot (slots d))) _ e in
+      let b = front-passed L d (ltb slot (slots d)) (a .0) in
       let c = or-else-none (8 when empty d slot) _ (a .1) in
       let f = or-else-none (early d slot) (receiveRefusal (message d slot) (counterThere L d slot)) (c .1) in
-      let in-pool : slot < slots d = ltb-true _ _ (not-false _ (when-not 2 _ (b .1))) in
+      let in-pool : slot < slots d = ltb-true _ _ (b .1) in
       record {
         good = b .0;
         in-pool = in-pool;

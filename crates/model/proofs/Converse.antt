@@ -1,11 +1,11 @@
 -- Demand 2, the converse: where the published machine permits a transition, the desk accepts the call.
 use Prim.Native.Nat.{ℕ, _≤_, _<_}
-use mathlib.Core.Path.{_≡_, sym, ap, _∙_, subst}
+use mathlib.Core.Path.{_≡_, refl, sym, ap, _∙_, subst}
 use mathlib.Core.Logic.{_≢_, _⊎_, inl, inr}
 use mathlib.Core.Bool.{true, false, not}
 use mathlib.Core.List.{List, [], _∷_}
 use native.Mathlib.Omega.{arith}
-use borrow.Author.Tests.{not-false, eqb-true}
+use borrow.Author.Tests.{not-false, eqb-true, ne-eqb, lt-ltb}
 use Rattle.moreau.specs.StateSpace.{Msg, COPY, DEC, INC-DEC, BagOf, ⟅_⟆}
 use Rattle.moreau.specs.Transformers.{MayCopy, MayReceive, MayDelete}
 use Rattle.moreau.specs.Transitions.{PaperGuard}
@@ -14,16 +14,15 @@ use Rattle.model.specs.declared.Posted.{Posted}
 use Rattle.model.specs.declared.Posted.the-variants.{Copy, Dec as Decr, IncDec, Nothing}
 use Rattle.model.specs.declared.Call.the-variants.{MakeCopy, Receive, Delete}
 use Rattle.model.specs.Refusals.{_when_}
-use Rattle.model.specs.Messages.{isNothing}
+use Rattle.model.specs.Messages.{isNothing, receiver, pointerOf, receiveRefusal}
 use Rattle.model.specs.Layout.{Layout}
-use Rattle.model.specs.Calls.{lentRefusal, step}
+use Rattle.model.specs.Calls.{front, copyNumber, copied, makeCopy, receiveNumber, received, receive, deleteNumber, deleted, delete, heldRefusal, lentRefusal, step}
 use Rattle.model.specs.Laws.{Laws}
-use Rattle.model.specs.Flat.{heldRefusal}
 use Rattle.model.specs.Meaning.{meant, configOf, meaning}
-use Rattle.model.specs.Demands.{Row, _because_, FirstOf, NoSlotEmpty, SomeIncDec, lentRows, copyRows, messageRows, receiveRows, deleteRows}
+use Rattle.model.specs.Demands.{Row, _because_, FirstOf, NoSlotEmpty, lentRows, copyRows, deleteRows}
 use Rattle.model.proofs.TestLaws.{true-not-false, when-not, or-else-none}
-use Rattle.model.proofs.PoolLaws.{term-in-total}
-use Rattle.model.proofs.Exactly.{call-exactly}
+use Rattle.model.proofs.Exactly.{number-of-unless, copy-exactly, delete-exactly}
+use Rattle.model.proofs.HeldLaws.{the-guard-is-held}
 use Rattle.model.proofs.KeptLaws.{sent, holds}
 use Rattle.model.proofs.ReceiveTransition.{one-bag}
 
@@ -38,18 +37,18 @@ unfolding FirstOf
 none-left n f = f
 
 -- a slot that means one message is not empty
-not-empty : (x : Posted) (m : Msg) → meant x ≡ ⟅ m ⟆ → isNothing x ≡ true → ⊥
+not-empty : (x : Posted) (m : Msg) → meant x ≡ ⟅ m ⟆ → isNothing x ≡ false
 unfolding meant
-not-empty (Copy a b p) m q e = true-not-false (sym e)
-not-empty (Decr a b p) m q e = true-not-false (sym e)
-not-empty (IncDec a b c p) m q e = true-not-false (sym e)
-not-empty Nothing m q e = omega (arith, ap (λ (M : BagOf Msg). M m) q, one-same m)
+not-empty (Copy a b p) m q = refl
+not-empty (Decr a b p) m q = refl
+not-empty (IncDec a b c p) m q = refl
+not-empty Nothing m q = absurd (omega (arith, ap (λ (M : BagOf Msg). M m) q, one-same m))
 
 too-large : {a n : ℕ} → a < n → n ≤ a → ⊥
 too-large l h = omega arith
 
-module _ {D : Type 0} (L : Layout D) (W : Laws L) (guard : (d : D) (slot : ℕ) → L .early d slot ≡ heldRefusal (L .slots d) (L .message d) (L .message d slot)) where
-  open Layout L using (sites, pointers, owner, counter, cell, slots, empty, message, shaped, sound)
+module _ {D : Type 0} (L : Layout D) (W : Laws L) where
+  open Layout L using (sites, pointers, owner, counter, cell, slots, empty, message, shaped, sound, early)
 
   -- the lent memory passes 1 and 2, so these rows are passed over
   lent-passed : (d : D) (rows : List Row) (n : ℕ) → lentRefusal L d ≡ 0 → FirstOf (lentRows L d rows) n → FirstOf rows n
@@ -62,16 +61,16 @@ module _ {D : Type 0} (L : Layout D) (W : Laws L) (guard : (d : D) (slot : ℕ) 
   -- Where the machine permits MAKE_COPY, the names are in range, the sender's counter stands below 65,535 and a slot is empty, make copy is accepted.
   pub copy-permitted : (d : D) (from to p slot : ℕ) → lentRefusal L d ≡ 0 → from < sites d → to < sites d → p < pointers d → MayCopy from to p (meaning L d)
       → counter d from p < 65535 → slot < slots d → empty d slot ≡ true → step L d (MakeCopy from to p) .answer .number ≡ 0
-  unfolding configOf
+  unfolding configOf step makeCopy copied
   copy-permitted d from to p slot e lf lt lp may low ls free =
-      let n = step L d (MakeCopy from to p) .answer .number in
-      none-left n
+      let n = copyNumber L d from to p in
+      number-of-unless n d (copied L d from to p) refl ∙ none-left n
       (passed-over 7 (NoSlotEmpty L d) _ n (λ full. true-not-false (sym free ∙ full slot ls))
       (passed-over 6 (counter d from p ≡ 65535) _ n (λ z. omega arith)
       (passed-over 5 ((from ≢ owner d p) × (cell d from p ≡ 0)) _ n (reaches (may .access))
       (passed-over 4 (from ≡ to) _ n (may .apart)
       (passed-over 3 ((sites d ≤ from) ⊎ ((sites d ≤ to) ⊎ (pointers d ≤ p))) _ n in-range
-      (lent-passed d (copyRows L d from to p) n e (call-exactly L guard d (MakeCopy from to p))))))))
+      (lent-passed d (copyRows L d from to p) n e (copy-exactly L d from to p)))))))
     where
       in-range : (sites d ≤ from) ⊎ ((sites d ≤ to) ⊎ (pointers d ≤ p)) → ⊥
       in-range (inl h) = too-large lf h
@@ -85,50 +84,54 @@ module _ {D : Type 0} (L : Layout D) (W : Laws L) (guard : (d : D) (slot : ℕ) 
   -- Where the machine permits DELETE, the names are in range and a slot is empty, delete is accepted.
   pub delete-permitted : (d : D) (site p slot : ℕ) → lentRefusal L d ≡ 0 → site < sites d → p < pointers d → MayDelete site p (meaning L d)
       → slot < slots d → empty d slot ≡ true → step L d (Delete site p) .answer .number ≡ 0
-  unfolding configOf
+  unfolding configOf step delete deleted
   delete-permitted d site p slot e ls lp may lk free =
-      let n = step L d (Delete site p) .answer .number in
-      none-left n
+      let n = deleteNumber L d site p in
+      number-of-unless n d (deleted L d site p) refl ∙ none-left n
       (passed-over 7 (NoSlotEmpty L d) _ n (λ full. true-not-false (sym free ∙ full slot lk))
       (passed-over 12 (counter d site p ≢ 0) _ n (λ why. why (sym (sent L d site p ls lp) ∙ may .unsent))
       (passed-over 5 (cell d site p ≡ 0) _ n (λ z. omega (arith, eqb-true (cell d site p) 1 (sym (holds L d site p ls lp) ∙ may .held)))
       (passed-over 11 (site ≡ owner d p) _ n (λ q. may .other (sym q))
       (passed-over 3 ((sites d ≤ site) ⊎ (pointers d ≤ p)) _ n in-range
-      (lent-passed d (deleteRows L d site p) n e (call-exactly L guard d (Delete site p))))))))
+      (lent-passed d (deleteRows L d site p) n e (delete-exactly L d site p)))))))
     where
       in-range : (sites d ≤ site) ⊎ (pointers d ≤ p) → ⊥
       in-range (inl h) = too-large ls h
       in-range (inr h) = too-large lp h
 
-  -- what a message's own rows ask, where the machine permits RECEIVE
-  module _ (d : D) where
-    no-inc-dec : (a b p : ℕ) → PaperGuard (meaning L d) a b p → SomeIncDec L d a b p → ⊥
-    unfolding configOf meant
-    no-inc-dec a b p may why =
-        let m : Msg = INC-DEC a b p (why .third) in
-        let here : meant (message d (why .slot)) m ≡ 1 = ap (λ (x : Posted). meant x m) (why .holds) ∙ one-same m in
-        omega (arith, may (why .third), term-in-total (slots d) (λ i. meant (message d i) m) (why .slot) (why .in-pool))
+  -- where the machine permits RECEIVE, a message's own tests pass
+  own-passed : (d : D) (x : Posted) (m : Msg) → meant x ≡ ⟅ m ⟆ → MayReceive m
+      → ((a b p : ℕ) → m ≡ DEC a b p → 0 < counter d b p) → ((a b p c : ℕ) → m ≡ INC-DEC a b p c → counter d b p < 65535)
+      → receiveRefusal x (counter d (receiver x) (pointerOf x)) ≡ 0
+  unfolding meant
+  own-passed d (Copy a b p) m q may lowered raised = rw (ne-eqb a b (λ e. subst MayReceive (sym (one-bag (COPY a b p) m q)) may e))
+  own-passed d (Decr a b p) m q may lowered raised =
+      rw (ne-eqb (counter d b p) 0 (λ z. omega (arith, lowered a b p (sym (one-bag (DEC a b p) m q)))))
+  own-passed d (IncDec a b c p) m q may lowered raised =
+      rw (ne-eqb (counter d b p) 65535 (λ z. omega (arith, raised a b p c (sym (one-bag (INC-DEC a b p c) m q)))))
+  own-passed d Nothing m q may lowered raised = refl
 
-    own-passed : (x : Posted) (m : Msg) (n : ℕ) → meant x ≡ ⟅ m ⟆ → MayReceive m → ((a b p : ℕ) → m ≡ DEC a b p → PaperGuard (meaning L d) a b p)
-        → ((a b p : ℕ) → m ≡ DEC a b p → 0 < counter d b p) → ((a b p c : ℕ) → m ≡ INC-DEC a b p c → counter d b p < 65535)
-        → FirstOf (messageRows L d x) n → n ≡ 0
-    unfolding meant
-    own-passed (Copy a b p) m n q may held lowered raised f = none-left n (passed-over 4 (a ≡ b) _ n (λ e. subst MayReceive (sym (one-bag (COPY a b p) m q)) may e) f)
-    own-passed (Decr a b p) m n q may held lowered raised f =
-        let e = sym (one-bag (DEC a b p) m q) in
-        none-left n (passed-over 10 (counter d b p ≡ 0) _ n (λ z. omega (arith, lowered a b p e)) (passed-over 9 (SomeIncDec L d a b p) _ n (no-inc-dec a b p (held a b p e)) f))
-    own-passed (IncDec a b c p) m n q may held lowered raised f =
-        none-left n (passed-over 6 (counter d b p ≡ 65535) _ n (λ z. omega (arith, raised a b p c (sym (one-bag (INC-DEC a b p c) m q)))) f)
-    own-passed Nothing m n q may held lowered raised f = absurd (omega (arith, ap (λ (M : BagOf Msg). M m) q, one-same m))
-
-  -- Where the machine permits RECEIVE of the message of a slot, a counter to be lowered stands above 0 and one to be raised below 65,535, receive is accepted.
+  -- Where the machine permits RECEIVE of the message of a slot, the layout's own test does not hold it back, a counter to be lowered stands above 0 and one to be raised below 65,535, receive is accepted.
   pub receive-permitted : (d : D) (slot : ℕ) (m : Msg) → lentRefusal L d ≡ 0 → slot < slots d → meant (message d slot) ≡ ⟅ m ⟆ → MayReceive m
+      → early d slot ≡ 0
+      → ((a b p : ℕ) → m ≡ DEC a b p → 0 < counter d b p) → ((a b p c : ℕ) → m ≡ INC-DEC a b p c → counter d b p < 65535)
+      → step L d (Receive slot) .answer .number ≡ 0
+  unfolding step receive received receiveNumber front
+  receive-permitted d slot m e ls q may in-time lowered raised =
+      let used : isNothing (message d slot) ≡ false = not-empty (message d slot) m q in
+      rw (e, lt-ltb slot (slots d) ls, W .empties d e slot ls, used, in-time, own-passed d (message d slot) m q may lowered raised)
+
+  -- Where that test is Held, the published guard passes it.
+  pub receive-permitted-held : ((d : D) (slot : ℕ) → early d slot ≡ heldRefusal (slots d) (message d) (message d slot))
+      → (d : D) (slot : ℕ) (m : Msg) → lentRefusal L d ≡ 0 → slot < slots d → meant (message d slot) ≡ ⟅ m ⟆ → MayReceive m
       → ((a b p : ℕ) → m ≡ DEC a b p → PaperGuard (meaning L d) a b p)
       → ((a b p : ℕ) → m ≡ DEC a b p → 0 < counter d b p) → ((a b p c : ℕ) → m ≡ INC-DEC a b p c → counter d b p < 65535)
       → step L d (Receive slot) .answer .number ≡ 0
-  receive-permitted d slot m e ls q may held lowered raised =
-      let n = step L d (Receive slot) .answer .number in
-      own-passed d (message d slot) m n q may held lowered raised
-      (passed-over 8 (empty d slot ≡ true) _ n (λ z. not-empty (message d slot) m q (sym (W .empties d e slot ls) ∙ z))
-      (passed-over 3 (slots d ≤ slot) _ n (too-large ls)
-      (lent-passed d (receiveRows L d slot) n e (call-exactly L guard d (Receive slot)))))
+  unfolding meant
+  receive-permitted-held held d slot m e ls q may guard = receive-permitted d slot m e ls q may (held d slot ∙ go (message d slot) q)
+    where
+      go : (x : Posted) → meant x ≡ ⟅ m ⟆ → heldRefusal (slots d) (message d) x ≡ 0
+      go (Copy a b p) q = refl
+      go (Decr a b p) q = the-guard-is-held L d a b p (guard a b p (sym (one-bag (DEC a b p) m q)))
+      go (IncDec a b c p) q = refl
+      go Nothing q = refl

@@ -3,7 +3,6 @@ use Prim.Native.Nat.{ℕ, _+_, _<_}
 use mathlib.Core.Path.{_≡_, refl, sym, ap, _∙_}
 use mathlib.Core.Logic.{_≢_, _⊎_, inl, inr}
 use mathlib.Core.Bool.{true, false}
-use native.Mathlib.Omega.{arith}
 use borrow.Author.Tests.{eq-eqb}
 use Rattle.moreau.specs.StateSpace.{COPY, DEC}
 use Rattle.moreau.specs.Transformers.{send-T_≔_, rec-T_≔_, post, DELETE}
@@ -14,36 +13,31 @@ use Rattle.model.specs.Calls.{lowestEmpty, copyNumber, copied, deleteNum
 use Rattle.model.specs.Laws.{Laws}
 use Rattle.model.specs.Meaning.{configOf, meaning}
 use Rattle.model.specs.Demands.{MakesCopy, Deletes}
-use Rattle.model.proofs.MeaningLaws.{posted, taken, counter-means, cell-means, slot-means}
-use Rattle.model.proofs.KeptLaws.{Kept, kept-slots, kept-inside, kept-by, kept-then, sent, holds}
+use Rattle.model.proofs.MeaningLaws.{posted, taken, counter-and-slot-mean, cell-and-slot-mean}
+use Rattle.model.proofs.KeptLaws.{Kept, kept-by, sent, holds}
 use Rattle.model.proofs.Accepted.{copy-accepted, delete-accepted}
+use Rattle.model.proofs.ReadsLaws.{copied-reads, deleted-reads}
 
 module _ {D : Type 0} (L : Layout D) (W : Laws L) where
   open Layout L using (sites, pointers, owner, counter, cell, setCounter, setCell)
 
   -- ---- make copy
   pub copy-is-MAKE-COPY : (d : D) (from to p : ℕ) → copyNumber L d from to p ≡ 0 → MakesCopy L d (copied L d from to p .desk) from to p × Kept L d (copied L d from to p .desk)
-  unfolding copied configOf
+  unfolding configOf
   copy-is-MAKE-COPY d from to p e =
       let c = copy-accepted L W d from to p e in
       let m : Posted = Copy from to p in
       let n = counter d from p + 1 in
-      let k = lowestEmpty L d in
-      let r1 = W .sets-counter d from p n (c .good) (c .from-site) (c .a-pointer) in
-      let k1 = kept-by L r1 in
-      let in-pool = kept-slots L k1 (c .room .in-pool) in
-      let inside = kept-inside L k1 m (c .from-site, c .to-site, c .a-pointer) in
-      let raised = setCounter d from p n in (
+      let r = copied-reads L W d from to p c in (
         record {
           in-range = (c .from-site, c .to-site, c .a-pointer);
           may = record { apart = c .apart; access = access (c .from-site) (c .a-pointer) (c .access) };
           after =
-              slot-means L W raised k m (r1 .good) in-pool inside
-              ∙ ap (λ (x : Posted). posted m (taken x (meaning L raised))) (r1 .as-messages k (c .room .in-pool) ∙ c .room .unused)
-              ∙ ap (post (COPY from to p)) (counter-means L W d from p n (c .good) (c .from-site) (c .a-pointer))
+              counter-and-slot-mean L d (copied L d from to p .desk) from p (c .from-site) (c .a-pointer) (lowestEmpty L d) (c .room .in-pool) m n r
+              ∙ ap (λ (x : Posted). posted m (taken x ((send-T (from, p) ≔ n) (meaning L d)))) (c .room .unused)
               ∙ ap (λ (v : ℕ). post (COPY from to p) ((send-T (from, p) ≔ v + 1) (meaning L d))) (sym (sent L d from p (c .from-site) (c .a-pointer)));
         },
-        kept-then L k1 (kept-by L (W .posts raised k m (r1 .good) in-pool inside)),
+        kept-by L r,
       )
     where
       access : from < sites d → p < pointers d → (from ≡ owner d p) ⊎ (cell d from p ≡ 1) → (from ≡ meaning L d .owner p) ⊎ (meaning L d .rec from p ≡ true)
@@ -52,16 +46,11 @@ module _ {D : Type 0} (L : Layout D) (W : Laws L) where
 
   -- ---- delete
   pub delete-is-DELETE : (d : D) (site p : ℕ) → deleteNumber L d site p ≡ 0 → Deletes L d (deleted L d site p .desk) site p × Kept L d (deleted L d site p .desk)
-  unfolding deleted configOf
+  unfolding configOf
   delete-is-DELETE d site p e =
       let c = delete-accepted L W d site p e in
       let m : Posted = Decr site (owner d p) p in
-      let k = lowestEmpty L d in
-      let r1 = W .sets-cell d site p 0 (c .good) (c .a-site) (c .a-pointer) (omega arith) in
-      let k1 = kept-by L r1 in
-      let in-pool = kept-slots L k1 (c .room .in-pool) in
-      let inside = kept-inside L k1 m (c .a-site, W .owner-inside d (c .good) p (c .a-pointer), c .a-pointer) in
-      let emptied = setCell d site p 0 in (
+      let r = deleted-reads L W d site p c in (
         record {
           in-range = (c .a-site, c .a-pointer);
           may = record {
@@ -70,12 +59,11 @@ module _ {D : Type 0} (L : Layout D) (W : Laws L) where
             other = other (c .other);
           };
           after =
-              slot-means L W emptied k m (r1 .good) in-pool inside
-              ∙ ap (λ (x : Posted). posted m (taken x (meaning L emptied))) (r1 .as-messages k (c .room .in-pool) ∙ c .room .unused)
-              ∙ ap (post (DEC site (owner d p) p)) (cell-means L W d site p 0 (c .good) (c .a-site) (c .a-pointer) (omega arith))
+              cell-and-slot-mean L d (deleted L d site p .desk) site p (c .a-site) (c .a-pointer) (lowestEmpty L d) (c .room .in-pool) m 0 r
+              ∙ ap (λ (x : Posted). posted m (taken x ((rec-T (site, p) ≔ false) (meaning L d)))) (c .room .unused)
               ∙ same-owner;
         },
-        kept-then L k1 (kept-by L (W .posts emptied k m (r1 .good) in-pool inside)),
+        kept-by L r,
       )
     where
       other : site ≢ owner d p → meaning L d .owner p ≢ site

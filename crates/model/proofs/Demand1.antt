@@ -2,7 +2,7 @@
 use Prim.Native.Nat.{ℕ, zero, suc}
 use mathlib.Core.Path.{_≡_, refl}
 use mathlib.Core.Logic.{_≢_, inl, inr}
-use mathlib.Core.List.{List, [], _∷_}
+use mathlib.Core.List.{List, [], _∷_, _++_}
 use Rattle.model.specs.declared.Posted.{Posted}
 use Rattle.model.specs.declared.Posted.the-variants.{Copy, Dec as Decr, IncDec, Nothing}
 use Rattle.model.specs.declared.Call.{Call}
@@ -10,9 +10,8 @@ use Rattle.model.specs.declared.Call.the-variants.{MakeCopy, Receive, De
 use Rattle.model.specs.Answers.{refused, Outcome, unless}
 use Rattle.model.specs.Layout.{Layout}
 use Rattle.model.specs.Calls.{openRefusal, openDesk, copyNumber, copied, makeCopy, receiveNumber, received, receive, deleteNumber, deleted, delete, askNumber, asked, ask, step}
-use Rattle.model.specs.Flat.{heldRefusal}
-use Rattle.model.specs.Demands.{Row, FirstOf, _among_, listed, messageRows, rowsOf}
-use Rattle.model.proofs.Exactly.{call-exactly}
+use Rattle.model.specs.Demands.{Row, FirstOf, _among_, listed, openRows, heldRowsOf, heldRows, messageRows, rowsOf, TellsEarly}
+use Rattle.model.proofs.Exactly.{open-exactly, call-exactly}
 
 -- what is refused is as `unless` has it
 refused-whole : {D : Type 0} (n : ℕ) (d : D) (o : Outcome D) → o .answer .number ≡ 0 → unless n d o .answer .number ≢ 0
@@ -21,7 +20,7 @@ refused-whole zero d o e given = absurd (given e)
 refused-whole (suc n) d o e given = refl
 
 -- a table's number is 0, or among its rows'
-abbrev numbers : List Row → List ℕ
+abbrev pub numbers : List Row → List ℕ
 numbers [] = []
 numbers (row ∷ rows) = row .number ∷ numbers rows
 
@@ -38,8 +37,8 @@ among-tail n k ks ls wider (inl e) = inl e
 among-tail n k ks ls wider (inr m) = inr (wider m)
 
 module _ {D : Type 0} (L : Layout D) where
-  -- the numbers of a message are among 4, 9, 10, 6
-  of-a-message : (d : D) (m : Posted) (n : ℕ) → n among numbers (messageRows L d m) → n among (4 ∷ 9 ∷ 10 ∷ 6 ∷ [])
+  -- the numbers of a message, with Held before its own, are among 4, 9, 10, 6
+  of-a-message : (d : D) (m : Posted) (n : ℕ) → n among numbers (heldRowsOf L d m ++ messageRows L d m) → n among (4 ∷ 9 ∷ 10 ∷ 6 ∷ [])
   unfolding _among_
   of-a-message d (Copy a b p) n (inl e) = inl e
   of-a-message d (Copy a b p) n (inr e) = absurd e
@@ -72,13 +71,20 @@ module _ {D : Type 0} (L : Layout D) where
       go zero = refl
       go (suc n) = refl
 
-  module _ (guard : (d : D) (slot : ℕ) → L .early d slot ≡ heldRefusal (L .slots d) (L .message d) (L .message d slot)) where
-    -- A refusal number is one of those that document 01 lists for the call.
-    pub refused-by-listed : (d : D) (c : Call) → step L d c .answer .number ≢ 0 → step L d c .answer .number among listed c
-    refused-by-listed d (MakeCopy from to p) given = from-the-table (rowsOf L d (MakeCopy from to p)) _ (call-exactly L guard d (MakeCopy from to p)) given
-    refused-by-listed d (Receive slot) given =
-        let n = step L d (Receive slot) .answer .number in
-        among-tail n 1 _ _ (among-tail n 2 _ _ (among-tail n 3 _ _ (among-tail n 8 _ _ (of-a-message d (L .message d slot) n))))
-        (from-the-table (rowsOf L d (Receive slot)) n (call-exactly L guard d (Receive slot)) given)
-    refused-by-listed d (Delete site p) given = from-the-table (rowsOf L d (Delete site p)) _ (call-exactly L guard d (Delete site p)) given
-    refused-by-listed d (Ask site p) given = from-the-table (rowsOf L d (Ask site p)) _ (call-exactly L guard d (Ask site p)) given
+  -- A refusal number is one of its table's.
+  pub refused-by-a-row : (earlyRows : D → ℕ → List Row) → TellsEarly L earlyRows → (d : D) (c : Call) → step L d c .answer .number ≢ 0 → step L d c .answer .number among numbers (rowsOf L earlyRows d c)
+  refused-by-a-row earlyRows tells d c = from-the-table (rowsOf L earlyRows d c) _ (call-exactly L earlyRows tells d c)
+
+  -- The same of an opening.
+  pub refused-opening-by-a-row : (d : D) → openDesk L d .answer .number ≢ 0 → openDesk L d .answer .number among (1 ∷ 2 ∷ [])
+  refused-opening-by-a-row d = from-the-table (openRows L d) _ (open-exactly L d)
+
+  -- Where Held is what comes too early, it is one of those that document 01 lists for the call.
+  pub refused-by-listed : TellsEarly L (heldRows L) → (d : D) (c : Call) → step L d c .answer .number ≢ 0 → step L d c .answer .number among listed c
+  refused-by-listed tells d (MakeCopy from to p) given = refused-by-a-row (heldRows L) tells d (MakeCopy from to p) given
+  refused-by-listed tells d (Receive slot) given =
+      let n = step L d (Receive slot) .answer .number in
+      among-tail n 1 _ _ (among-tail n 2 _ _ (among-tail n 3 _ _ (among-tail n 8 _ _ (of-a-message d (L .message d slot) n))))
+      (refused-by-a-row (heldRows L) tells d (Receive slot) given)
+  refused-by-listed tells d (Delete site p) given = refused-by-a-row (heldRows L) tells d (Delete site p) given
+  refused-by-listed tells d (Ask site p) given = refused-by-a-row (heldRows L) tells d (Ask site p) given

@@ -9,9 +9,8 @@ use Rattle.model.specs.declared.Call.the-variants.{MakeCopy, Receive, De
 use Rattle.model.specs.Refusals.{_when_}
 use Rattle.model.specs.Answers.{accepted, Outcome, unless}
 use Rattle.model.specs.Layout.{Layout}
-use Rattle.model.specs.Calls.{lowestEmpty, copyNumber, copied, makeCopy, replied, receiveNumber, received, receive, deleteNumber, deleted, delete, askNumber, asked, ask, step}
+use Rattle.model.specs.Calls.{heldRefusal, lowestEmpty, copyNumber, copied, makeCopy, replied, receiveNumber, received, receive, deleteNumber, deleted, delete, askNumber, asked, ask, step}
 use Rattle.model.specs.Laws.{Laws}
-use Rattle.model.specs.Flat.{heldRefusal}
 use Rattle.model.specs.Meaning.{meaning}
 use Rattle.model.specs.Demands.{MakesCopy, Receives, Deletes}
 use Rattle.model.proofs.CopyAndDelete.{copy-is-MAKE-COPY, delete-is-DELETE}
@@ -19,7 +18,7 @@ use Rattle.model.proofs.ReceiveTransition.{receive-is-RECEIVE}
 use Rattle.model.proofs.HeldLaws.{held-is-the-guard}
 
 -- what holds of the outcome of a call whose tests give 0 holds of its outcome, where the answer's number is 0
-accepted-as : {D : Type 0} (P : D → Type 0) (n : ℕ) (d : D) (o : Outcome D) → (n ≡ 0 → P (o .desk)) → unless n d o .answer .number ≡ 0 → P (unless n d o .desk)
+pub accepted-as : {D : Type 0} (P : D → Type 0) (n : ℕ) (d : D) (o : Outcome D) → (n ≡ 0 → P (o .desk)) → unless n d o .answer .number ≡ 0 → P (unless n d o .desk)
 accepted-as P zero d o h e = h refl
 accepted-as P (suc n) d o h e = absurd (omega arith)
 

@@ -1,4 +1,4 @@
--- Demand 3: from an opened desk, after any calls in any order, the owner's counter is 0 exactly when the pointer is quiet.
+-- Demand 3: where the machine's invariant stands, the owner's counter is 0 exactly when the pointer is quiet. It stands on every reached desk.
 use Prim.Native.Nat.{ℕ, _<_}
 use mathlib.Core.Path.{_≡_, refl, sym, ap, _∙_}
 use mathlib.Core.Logic.{_↔_}
@@ -6,8 +6,7 @@ use mathlib.Core.Bool.{Bool, true, false}
 use native.Mathlib.Omega.{arith}
 use lib.Dec.{eqb}
 use borrow.Author.Tests.{eq-eqb, ne-eqb, eqb-true, lt-ltb}
-use Rattle.moreau.specs.Transitions.{Guard, WeakGuard, _implies_}
-use Rattle.moreau.proofs.Quiet.{owner-zero-iff-quiet}
+use Rattle.moreau.proofs.Quiet.{zero-iff-quiet}
 use Rattle.model.specs.declared.Posted.the-variants.{Nothing}
 use Rattle.model.specs.declared.Answer.{Answer}
 use Rattle.model.specs.declared.Call.the-variants.{Ask}
@@ -16,41 +15,39 @@ use Rattle.model.specs.Answers.{accepted}
 use Rattle.model.specs.Layout.{Layout}
 use Rattle.model.specs.Calls.{front, askNumber, asked, ask, step}
 use Rattle.model.specs.Laws.{Laws}
-use Rattle.model.specs.Meaning.{configOf}
-use Rattle.model.specs.Demands.{names, Reached, Quiet}
+use Rattle.model.specs.Meaning.{configOf, meaning}
+use Rattle.model.specs.Demands.{names, Quiet}
 use Rattle.model.proofs.TestLaws.{true-not-false}
 use Rattle.model.proofs.KeptLaws.{sent}
 use Rattle.model.proofs.QuietLaws.{quiet-means}
-use Rattle.model.proofs.ReachedLaws.{Guarded, sound}
+use Rattle.model.proofs.ReachedLaws.{Stands}
 
-module _ {D : Type 0} (L : Layout D) (W : Laws L) (May : Guard) (i : May implies WeakGuard) (guarded : Guarded L W May) where
+module _ {D : Type 0} (L : Layout D) (W : Laws L) {d : D} (s : Stands L W d) where
   open Layout L using (sites, pointers, owner, counter, slots, message)
 
-  -- From an opened desk, after any calls in any order: the owner's counter is 0 if and only if no other site holds the pointer and no message in flight names it.
-  pub counter-zero-iff-quiet : {d : D} → Reached L d → (p : ℕ) → p < pointers d → (counter d (owner d p) p ≡ 0) ↔ Quiet L d p
+  -- The owner's counter is 0 if and only if no other site holds the pointer and no message in flight names it.
+  pub counter-zero-iff-quiet : (p : ℕ) → p < pointers d → (counter d (owner d p) p ≡ 0) ↔ Quiet L d p
   unfolding configOf
-  counter-zero-iff-quiet {d} r p lp =
-      let s = sound L W May guarded r in
+  counter-zero-iff-quiet p lp =
       let own = W .owner-inside d (s .good) p lp in
       let same = sent L d (owner d p) p own lp in
-      let machine = owner-zero-iff-quiet i (s .reachable) p lp in
+      let machine = zero-iff-quiet (meaning L d) (s .well-formed) p lp (s .sound p lp) in
       let look = quiet-means L W d p (s .good) lp in
       ((λ z. look .0 (machine .0 (same ∙ z))), (λ quiet. sym same ∙ machine .1 (look .1 quiet)))
 
-  -- ask at the owner of a reached desk is accepted, and its value says whether the counter is 0
-  asked-at-owner : {d : D} → Reached L d → (p : ℕ) → p < pointers d → step L d (Ask (owner d p) p) .answer ≡ accepted (1 when eqb (counter d (owner d p) p) 0) Nothing
+  -- ask at the owner is accepted, and its value says whether the counter is 0
+  asked-at-owner : (p : ℕ) → p < pointers d → step L d (Ask (owner d p) p) .answer ≡ accepted (1 when eqb (counter d (owner d p) p) 0) Nothing
   unfolding step ask askNumber asked front
-  asked-at-owner {d} r p lp =
-      let s = sound L W May guarded r in
+  asked-at-owner p lp =
       let own = W .owner-inside d (s .good) p lp in
       rw (s .good, lt-ltb (owner d p) (sites d) own, lt-ltb p (pointers d) lp, eq-eqb (owner d p) (owner d p) refl)
 
   -- Ask answers 1 exactly when the pointer is quiet.
-  pub ask-says-quiet : {d : D} → Reached L d → (p : ℕ) → p < pointers d → (step L d (Ask (owner d p) p) .answer ≡ accepted 1 Nothing) ↔ Quiet L d p
-  ask-says-quiet {d} r p lp =
-      let iff = counter-zero-iff-quiet r p lp in (
-        (λ e. iff .0 (one-when (counter d (owner d p) p) (ap (λ (a : Answer). a .value) (sym (asked-at-owner r p lp) ∙ e)))),
-        (λ quiet. asked-at-owner r p lp ∙ ap (λ (b : Bool). accepted (1 when b) Nothing) (eq-eqb _ _ (iff .1 quiet))),
+  pub ask-says-quiet : (p : ℕ) → p < pointers d → (step L d (Ask (owner d p) p) .answer ≡ accepted 1 Nothing) ↔ Quiet L d p
+  ask-says-quiet p lp =
+      let iff = counter-zero-iff-quiet p lp in (
+        (λ e. iff .0 (one-when (counter d (owner d p) p) (ap (λ (a : Answer). a .value) (sym (asked-at-owner p lp) ∙ e)))),
+        (λ quiet. asked-at-owner p lp ∙ ap (λ (b : Bool). accepted (1 when b) Nothing) (eq-eqb _ _ (iff .1 quiet))),
       )
     where
       one-when : (n : ℕ) → (1 when eqb n 0) ≡ 1 → n ≡ 0
@@ -61,8 +58,8 @@ module _ {D : Type 0} (L : Layout D) (W : Laws L) (May : Guard) (i : May implies
           go false q e = absurd (omega arith)
 
   -- The incident: while any message names a pointer, ask at its owner answers 0.
-  pub ask-waits-for-messages : {d : D} → Reached L d → (p slot : ℕ) → p < pointers d → slot < slots d → names p (message d slot) ≡ true
+  pub ask-waits-for-messages : (p slot : ℕ) → p < pointers d → slot < slots d → names p (message d slot) ≡ true
       → step L d (Ask (owner d p) p) .answer ≡ accepted 0 Nothing
-  ask-waits-for-messages {d} r p slot lp l named =
-      asked-at-owner r p lp
-      ∙ ap (λ (b : Bool). accepted (1 when b) Nothing) (ne-eqb _ _ (λ z. true-not-false (sym named ∙ counter-zero-iff-quiet r p lp .0 z .no-message slot l)))
+  ask-waits-for-messages p slot lp l named =
+      asked-at-owner p lp
+      ∙ ap (λ (b : Bool). accepted (1 when b) Nothing) (ne-eqb _ _ (λ z. true-not-false (sym named ∙ counter-zero-iff-quiet p lp .0 z .no-message slot l)))

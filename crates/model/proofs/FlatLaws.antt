@@ -8,7 +8,7 @@ use native.Mathlib.Omega.{arith}
 use lib.Dec.{eqb}
 use lib.ListN.{length, getD, set, replicate, length-set, length-replicate}
 use lib.Seq.{length-sets, getD-set-same, getD-set-other}
-use borrow.Author.Tests.{ltb-true, lt-ltb}
+use borrow.Author.Tests.{lt-ltb}
 use Rattle.model.specs.declared.Posted.{Posted}
 use Rattle.model.specs.declared.Posted.the-variants.{Nothing}
 use Rattle.model.specs.Refusals.{_when_}
@@ -20,13 +20,9 @@ use Rattle.model.specs.Flat.{flat, place}
 use Rattle.model.proofs.QuestionLaws.{every-at, every-all}
 use Rattle.model.proofs.PlaceLaws.{place-inside, store-at-place}
 use Rattle.model.proofs.SlotLaws.{store-in-slot, store-keeps-slots-good, good-slot-inside, good-slot-empty}
-use Rattle.model.proofs.ShapeLaws.{shaped, good, passes, shaped-desk, length-own-rows, own-rows-at, own-rows-below}
+use Rattle.model.proofs.ShapeLaws.{byte-below, shaped, good, passes, shaped-desk, length-own-rows, own-rows-at, own-rows-below}
 
 -- ---- bytes below a limit
-byte-below : (n : ℕ) (l : List ℕ) (i : ℕ) → i < length l → allBelow n l ≡ true → getD l i 0 < n
-unfolding allBelow
-byte-below n l i li e = ltb-true (getD l i 0) n (every-at (byteBelow n l) (length l) i li e)
-
 -- a byte below the limit leaves all bytes below it
 store-keeps-below : (n : ℕ) (l : List ℕ) (k x : ℕ) → x < n → allBelow n l ≡ true → allBelow n (set l k x) ≡ true
 unfolding allBelow
@@ -132,7 +128,6 @@ module _ (d : Desk) where
 pub flat-laws : Laws flat
 flat-laws = record {
   some-site = λ d e. let h = shaped-desk d e .sizes in (h .some-site, h .few-sites);
-  few-pointers = λ d e. shaped-desk d e .sizes .few-pointers;
   few-slots = λ d e. shaped-desk d e .few-slots;
   owner-inside = λ d e p lp. byte-below (d .S) (d .owners) p lp (good d e .owners-below);
   cell-bit = cell-bit;

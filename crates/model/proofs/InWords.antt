@@ -1,16 +1,18 @@
 -- Rows 1 and 2 in words: when lent parts of document 01 are well shaped, and when their tables are good.
-use Prim.Native.Nat.{ℕ, _*_, _/_, _%_, _<_}
-use mathlib.Core.Path.{_≡_}
+use Prim.Native.Nat.{ℕ, zero, suc, _+_, _*_, _/_, _%_, _<_}
+use mathlib.Core.Path.{_≡_, refl}
 use mathlib.Core.Logic.{_↔_}
 use mathlib.Core.Bool.{true, _&&_}
 use mathlib.Core.List.{List}
+use native.Mathlib.Omega.{arith}
 use lib.ListN.{length, getD}
-use borrow.Author.Tests.{le-leb, ltb-true, lt-ltb, eq-eqb}
+use borrow.Author.Tests.{le-leb, ltb-true, lt-ltb, eqb-true, eq-eqb}
 use Rattle.model.specs.Tables.{Desk, byteBelow, allBelow, atSlot, slotGood, slotsOf, allSlotsGood}
 use Rattle.model.specs.Flat.{flat}
 use Rattle.model.proofs.TestLaws.{and-both}
 use Rattle.model.proofs.QuestionLaws.{every-at, every-all}
-use Rattle.model.proofs.ShapeLaws.{Shaped, shaped}
+use Rattle.model.proofs.SlotLaws.{full, empty-zeros}
+use Rattle.model.proofs.ShapeLaws.{Shaped, shaped, byte-below}
 
 -- every byte is below n
 Below : ℕ → List ℕ → Type 0
@@ -19,15 +21,46 @@ Below n bytes = (i : ℕ) → i < length bytes → getD bytes i 0 < n
 all-below-in-words : (n : ℕ) (bytes : List ℕ) → (allBelow n bytes ≡ true) ↔ Below n bytes
 unfolding allBelow Below
 all-below-in-words n bytes = (
-  (λ e i l. ltb-true _ _ (every-at (byteBelow n bytes) (length bytes) i l e)),
+  (λ e i l. byte-below n bytes i l e),
   (λ h. every-all (byteBelow n bytes) (length bytes) (λ i l. lt-ltb _ _ (h i l))),
 )
 
+-- ---- a slot, for S sites and G pointers: five zero bytes; a COPY or a DEC; an INC_DEC
+pub data GoodSlot (S G : ℕ) : ℕ → ℕ → ℕ → ℕ → ℕ → Type 0 where
+  no-message : GoodSlot S G 0 0 0 0 0
+  a-copy : {from to p : ℕ} → from < S → to < S → p < G → GoodSlot S G 1 from to 0 p
+  a-dec : {from to p : ℕ} → from < S → to < S → p < G → GoodSlot S G 2 from to 0 p
+  an-inc-dec : {from to third p : ℕ} → from < S → to < S → third < S → p < G → GoodSlot S G 3 from to third p
+
+slot-in-words : (S G kind from to third p : ℕ) → slotGood S G kind from to third p ≡ true → GoodSlot S G kind from to third p
+slot-in-words S G zero a b c p e =
+    let z = empty-zeros a b c p e in
+    rw (z .0, z .1, z .2, z .3) no-message
+slot-in-words S G (suc zero) a b c p e =
+    let f = full S G 1 a b c p e (omega arith) in
+    rw (eqb-true c 0 (f .third-site)) (a-copy (f .from-site) (f .to-site) (f .a-pointer))
+slot-in-words S G (suc (suc zero)) a b c p e =
+    let f = full S G 2 a b c p e (omega arith) in
+    rw (eqb-true c 0 (f .third-site)) (a-dec (f .from-site) (f .to-site) (f .a-pointer))
+slot-in-words S G (suc (suc (suc zero))) a b c p e =
+    let f = full S G 3 a b c p e (omega arith) in
+    an-inc-dec (f .from-site) (f .to-site) (ltb-true c S (f .third-site)) (f .a-pointer)
+slot-in-words S G (suc (suc (suc (suc k)))) a b c p e =
+    let f = full S G (suc (suc (suc (suc k)))) a b c p e (omega arith) in
+    absurd (omega (arith, f .known-kind))
+
+slot-from-words : (S G kind from to third p : ℕ) → GoodSlot S G kind from to third p → slotGood S G kind from to third p ≡ true
+slot-from-words S G kind from to third p no-message = refl
+slot-from-words S G kind from to third p (a-copy l m n) = rw (lt-ltb from S l, lt-ltb to S m, lt-ltb p G n)
+slot-from-words S G kind from to third p (a-dec l m n) = rw (lt-ltb from S l, lt-ltb to S m, lt-ltb p G n)
+slot-from-words S G kind from to third p (an-inc-dec l m k n) = rw (lt-ltb from S l, lt-ltb to S m, lt-ltb third S k, lt-ltb p G n)
+
 -- what makes the tables good: every owner is a site, every receive byte is 0 or 1, every slot is good
-pub record Sound (d : Desk) : Type 0 where
+pub record GoodTables (d : Desk) : Type 0 where
   pub owners : (p : ℕ) → p < length (d .owners) → getD (d .owners) p 0 < d .S
   pub cells : (i : ℕ) → i < length (d .receive) → getD (d .receive) i 0 < 2
-  pub slots : (i : ℕ) → i < slotsOf (d .pool) → atSlot (slotGood (d .S) (length (d .owners))) (d .pool) i ≡ true
+  pub slots : (i : ℕ) → i < slotsOf (d .pool)
+      → GoodSlot (d .S) (length (d .owners)) (getD (d .pool) (i * 5) 0) (getD (d .pool) (i * 5 + 1) 0) (getD (d .pool) (i * 5 + 2) 0) (getD (d .pool) (i * 5 + 3) 0) (getD (d .pool) (i * 5 + 4) 0)
 
 -- BadShape is given exactly where S is not 1 to 64, G is above 256, a length is another than S x G, or the pool is not 0 to 1,024 slots of 5 bytes.
 pub shape-in-words : (d : Desk) → (flat .shaped d ≡ true) ↔ Shaped (d .S) (length (d .owners)) (length (d .send)) (length (d .receive)) (length (d .pool))
@@ -45,7 +78,7 @@ shape-in-words d = (
 )
 
 -- BadTable is given, after BadShape, exactly where an owner, a receive byte or a slot breaks its form.
-pub sound-in-words : (d : Desk) → (flat .sound d ≡ true) ↔ Sound d
+pub sound-in-words : (d : Desk) → (flat .sound d ≡ true) ↔ GoodTables d
 unfolding allSlotsGood Below
 sound-in-words d = (
   (λ e.
@@ -54,8 +87,13 @@ sound-in-words d = (
       record {
         owners = all-below-in-words (d .S) (d .owners) .0 (b .0);
         cells = all-below-in-words 2 (d .receive) .0 (b .1);
-        slots = λ i l. every-at (atSlot (slotGood (d .S) (length (d .owners))) (d .pool)) (slotsOf (d .pool)) i l (a .1);
+        slots = λ i l. slot-in-words _ _ _ _ _ _ _ (every-at (atSlot (slotGood (d .S) (length (d .owners))) (d .pool)) (slotsOf (d .pool)) i l (a .1));
       }),
   (λ h. rw (all-below-in-words (d .S) (d .owners) .1 (h .owners), all-below-in-words 2 (d .receive) .1 (h .cells))
-      (every-all (atSlot (slotGood (d .S) (length (d .owners))) (d .pool)) (slotsOf (d .pool)) (h .slots))),
+      (every-all (atSlot (slotGood (d .S) (length (d .owners))) (d .pool)) (slotsOf (d .pool)) (λ i l. slot-from-words _ _ _ _ _ _ _ (h .slots i l)))),
 )
+
+-- BadTable is given for an opening, after BadShape, exactly where an owner is no site.
+pub owned-in-words : (d : Desk) → (flat .owned d ≡ true) ↔ ((p : ℕ) → p < length (d .owners) → getD (d .owners) p 0 < d .S)
+unfolding Below
+owned-in-words d = all-below-in-words (d .S) (d .owners)

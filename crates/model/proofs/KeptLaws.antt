@@ -53,9 +53,6 @@ module _ {D : Type 0} (L : Layout D) where
   pub kept-by : {d e : D} {counters cells : ℕ → ℕ → ℕ} {messages : ℕ → Posted} → Reads L d e counters cells messages → Kept d e
   kept-by r = record { good = r .good; same = r .same }
 
-  pub kept-then : {d e f : D} → Kept d e → Kept e f → Kept d f
-  kept-then k j = record { good = j .good; same = j .same ∙ k .same }
-
   -- the meaning's tables inside
   pub sent : (d : D) (s p : ℕ) → s < sites d → p < pointers d → meaning L d .send s p ≡ counter d s p
   unfolding configOf

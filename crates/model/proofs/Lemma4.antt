@@ -1,4 +1,4 @@
--- Lemma 4 on the desk: from an opened desk, the counter of a site that is not the owner is the number of messages that act on it.
+-- Lemma 4 on the desk: where the machine's invariant stands, the counter of a site that is not the owner is the number of messages that act on it.
 use Prim.Native.Nat.{ℕ, zero, suc, _+_, _<_}
 use mathlib.Core.Path.{_≡_, refl, sym, ap, _∙_}
 use mathlib.Core.Logic.{_≢_}
@@ -7,11 +7,9 @@ use native.Mathlib.Decide.{ℕ-discrete}
 use lib.Dec.{eqb}
 use borrow.Author.Tests.{eq-eqb, ne-eqb}
 use Rattle.moreau.specs.StateSpace.{Msg, COPY, DEC, INC-DEC, pointer, BagOf, ∅, ⟅_⟆}
-use Rattle.moreau.specs.Transitions.{Guard, WeakGuard, _implies_}
 use Rattle.moreau.specs.Counts.{_if_is_, total as totalOf, under, Each}
 use Rattle.moreau.proofs.Bags.{one-elsewhere}
 use Rattle.moreau.proofs.Totals.{Within, total-union, total-empty, total-one}
-use Rattle.moreau.proofs.Counters.{lemma-4}
 use Rattle.model.specs.declared.Posted.{Posted}
 use Rattle.model.specs.declared.Posted.the-variants.{Copy, Dec as Decr, IncDec, Nothing}
 use Rattle.model.specs.Refusals.{_when_}
@@ -20,11 +18,11 @@ use Rattle.model.specs.Layout.{Layout}
 use Rattle.model.specs.Laws.{Inside, Laws}
 use Rattle.model.specs.Survey.{inFlight}
 use Rattle.model.specs.Meaning.{meant, configOf}
-use Rattle.model.specs.Demands.{controls, Reached}
+use Rattle.model.specs.Demands.{controls}
 use Rattle.model.proofs.TestLaws.{and-false}
 use Rattle.model.proofs.PoolLaws.{total-same}
 use Rattle.model.proofs.KeptLaws.{sent}
-use Rattle.model.proofs.ReachedLaws.{Guarded, sound}
+use Rattle.model.proofs.ReachedLaws.{Stands}
 
 -- the machine's total over the slots' bags is the total over the slots
 total-of-slots : (S p : ℕ) (w : Msg → ℕ) (n : ℕ) (bags : ℕ → BagOf Msg) → totalOf S p w (λ m. total n (λ i. bags i m)) ≡ total n (λ i. totalOf S p w (bags i))
@@ -61,16 +59,15 @@ slot-controlled S G p s (Decr a b q) w = one-controlled S p s b (DEC a b q) (w .
 slot-controlled S G p s (IncDec a b c q) w = one-controlled S p s c (INC-DEC a b q c) (w .0, w .1, w .2) refl
 slot-controlled S G p s Nothing w = total-empty S p (under s Each) ∅ (λ m e. refl)
 
-module _ {D : Type 0} (L : Layout D) (W : Laws L) (May : Guard) (i : May implies WeakGuard) (guarded : Guarded L W May) {d : D} (r : Reached L d) (p : ℕ) (lp : p < L .pointers d) where
+module _ {D : Type 0} (L : Layout D) (W : Laws L) {d : D} (t : Stands L W d) (p : ℕ) (lp : p < L .pointers d) where
   open Layout L using (sites, pointers, owner, counter, slots, message)
 
   -- The counter of a site that is not the owner is the number of messages in flight that act on it.
   pub counter-is-messages-under-control : (s : ℕ) → s < sites d → s ≢ owner d p → counter d s p ≡ inFlight L d (controls s p)
   unfolding configOf
   counter-is-messages-under-control s ls apart =
-      let t = sound L W May guarded r in
       sym (sent L d s p ls lp)
-      ∙ lemma-4 i (t .reachable) p lp s apart
+      ∙ t .sound p lp .books s apart
       ∙ total-of-slots (sites d) p (under s Each) (slots d) (λ i. meant (message d i))
       ∙ total-same (slots d) (λ i. totalOf (sites d) p (under s Each) (meant (message d i))) (λ i. controls s p (message d i))
       (λ i l. slot-controlled (sites d) (pointers d) p s (message d i) (W .inside d (t .good) i l))

@@ -6,6 +6,7 @@ pub mod SlotLaws
 pub mod ShapeLaws
 pub mod FlatLaws
 pub mod InWords
+pub mod FrontLaws
 pub mod RowLaws
 pub mod Exactly
 pub mod Demand1
@@ -13,12 +14,14 @@ pub mod Accepted
 pub mod PoolLaws
 pub mod MeaningLaws
 pub mod KeptLaws
+pub mod ReadsLaws
 pub mod CopyAndDelete
 pub mod ReplyLaws
 pub mod ReceiveWrites
 pub mod ReceiveTransition
 pub mod HeldLaws
 pub mod Demand2
+pub mod Placed
 pub mod Converse
 pub mod QuietLaws
 pub mod ReachedLaws

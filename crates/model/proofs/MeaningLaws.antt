@@ -1,5 +1,5 @@
 -- Each write of a lawful layout, on what the memory means.
-use Prim.Native.Nat.{ℕ, _+_, _-_, _≤_, _<_}
+use Prim.Native.Nat.{ℕ, _+_, _-_, _<_}
 use mathlib.Core.Path.{_≡_, refl, sym, ap, _∙_, fun-ext}
 use mathlib.Core.Bool.{Bool, true, false, _&&_, cond}
 use native.Mathlib.Decide.{ℕ-discrete}
@@ -14,8 +14,7 @@ use Rattle.model.specs.declared.Posted.the-variants.{Copy, Dec as Decr, 
 use Rattle.model.specs.Refusals.{_when_}
 use Rattle.model.specs.Questions.{total}
 use Rattle.model.specs.Layout.{Layout}
-use Rattle.model.specs.Calls.{lentRefusal}
-use Rattle.model.specs.Laws.{Frame, withCell, withSlot, Inside, Reads, Laws}
+use Rattle.model.specs.Laws.{Frame, withCell, withSlot, Reads, Laws}
 use Rattle.model.specs.Meaning.{meant, within, configOf, meaning}
 use Rattle.model.proofs.PlaceLaws.{changed-cell, cell-of-other-site, cell-of-other-pointer}
 use Rattle.model.proofs.PoolLaws.{total-same, total-of-zeros, term-in-total, total-with-slot}
@@ -139,45 +138,63 @@ module _ {D : Type 0} (L : Layout D) where
         owns s o true = bit (eqb s o) ∙ eqb-swapped s o
         owns s o false = refl
 
-    pub counter-means : (d : D) (s p n : ℕ) → lentRefusal L d ≡ 0 → s < sites d → p < pointers d → meaning L (setCounter d s p n) ≡ (send-T (s, p) ≔ n) (meaning L d)
+  -- ---- a counter, a cell, a slot changed in what is read
+  module _ (d : D) (counters cells : ℕ → ℕ → ℕ) (messages : ℕ → Posted) where
+    counters-mean : (s p n : ℕ) → s < sites d → p < pointers d → readAs d (withCell counters s p n) cells messages ≡ (send-T (s, p) ≔ n) (readAs d counters cells messages)
     unfolding configOf
-    counter-means d s p n e ls lp =
-        reads-mean d (setCounter d s p n) (W .sets-counter d s p n e ls lp)
-        ∙ (λ w. record {
-          sites = sites d;
-          pointers = pointers d;
-          owner = owner d;
-          send = within-changed (λ x. x) (sites d) (pointers d) (counter d) (λ s p. 0) s p n ls lp w;
-          rec = meaning L d .rec;
-          pool = meaning L d .pool;
-        })
+    counters-mean s p n ls lp w = record {
+      sites = sites d;
+      pointers = pointers d;
+      owner = owner d;
+      send = within-changed (λ x. x) (sites d) (pointers d) counters (λ s p. 0) s p n ls lp w;
+      rec = readAs d counters cells messages .rec;
+      pool = readAs d counters cells messages .pool;
+    }
 
-    pub cell-means : (d : D) (s p n : ℕ) → lentRefusal L d ≡ 0 → s < sites d → p < pointers d → n ≤ 1 → meaning L (setCell d s p n) ≡ (rec-T (s, p) ≔ eqb n 1) (meaning L d)
+    cells-mean : (s p n : ℕ) → s < sites d → p < pointers d → readAs d counters (withCell cells s p n) messages ≡ (rec-T (s, p) ≔ eqb n 1) (readAs d counters cells messages)
     unfolding configOf
-    cell-means d s p n e ls lp ln =
-        reads-mean d (setCell d s p n) (W .sets-cell d s p n e ls lp ln)
-        ∙ (λ w. record {
-          sites = sites d;
-          pointers = pointers d;
-          owner = owner d;
-          send = meaning L d .send;
-          rec = within-changed (λ x. eqb x 1) (sites d) (pointers d) (cell d) (λ s p. eqb (owner d p) s) s p n ls lp w;
-          pool = meaning L d .pool;
-        })
+    cells-mean s p n ls lp w = record {
+      sites = sites d;
+      pointers = pointers d;
+      owner = owner d;
+      send = readAs d counters cells messages .send;
+      rec = within-changed (λ x. eqb x 1) (sites d) (pointers d) cells (λ s p. eqb (owner d p) s) s p n ls lp w;
+      pool = readAs d counters cells messages .pool;
+    }
 
-    pub slot-means : (d : D) (i : ℕ) (m : Posted) → lentRefusal L d ≡ 0 → i < slots d → Inside (sites d) (pointers d) m
-        → meaning L (L .post d i m) ≡ posted m (taken (message d i) (meaning L d))
+    slots-mean : (i : ℕ) (m : Posted) → i < slots d → readAs d counters cells (withSlot messages i m) ≡ posted m (taken (messages i) (readAs d counters cells messages))
     unfolding configOf
-    slot-means d i m e li w =
-        reads-mean d (L .post d i m) (W .posts d i m e li w)
-        ∙ ap (withPool (meaning L d)) (fun-ext (λ x. exchanged x))
-        ∙ ap (λ (C : Config). withPool C (C .pool ∪ meant m)) (taken-pool (message d i) (meaning L d))
-        ∙ posted-pool m (taken (message d i) (meaning L d))
+    slots-mean i m li =
+        ap (withPool (readAs d counters cells messages)) (fun-ext (λ x. exchanged x))
+        ∙ ap (λ (C : Config). withPool C (C .pool ∪ meant m)) (taken-pool (messages i) (readAs d counters cells messages))
+        ∙ posted-pool m (taken (messages i) (readAs d counters cells messages))
       where
-        exchanged : (x : Msg) → total (slots d) (λ j. meant (withSlot (message d) i m j) x) ≡ total (slots d) (λ j. meant (message d j) x) - meant (message d i) x + meant m x
+        exchanged : (x : Msg) → total (slots d) (λ j. meant (withSlot messages i m j) x) ≡ total (slots d) (λ j. meant (messages j) x) - meant (messages i) x + meant m x
         exchanged x =
-            let here = term-in-total (slots d) (λ j. meant (message d j) x) i li in
-            omega (arith, total-with-slot (λ y. meant y x) (message d) i m (slots d) li)
+            let here = term-in-total (slots d) (λ j. meant (messages j) x) i li in
+            omega (arith, total-with-slot (λ y. meant y x) messages i m (slots d) li)
 
-    pub handled-means : (d : D) (i : ℕ) → lentRefusal L d ≡ 0 → i < slots d → meaning L (handled d i) ≡ meaning L d
-    handled-means d i e li = reads-mean d (handled d i) (W .handles d i e li)
+  -- ---- memory that reads as before but for one counter and one slot, one cell and one slot, or all three
+  module _ (d e : D) (s p : ℕ) (ls : s < sites d) (lp : p < pointers d) (i : ℕ) (li : i < slots d) (m : Posted) where
+    pub counter-and-slot-mean : (n : ℕ) → Reads L d e (withCell (counter d) s p n) (cell d) (withSlot (message d) i m)
+        → meaning L e ≡ posted m (taken (message d i) ((send-T (s, p) ≔ n) (meaning L d)))
+    counter-and-slot-mean n r =
+        reads-mean d e r
+        ∙ slots-mean d (withCell (counter d) s p n) (cell d) (message d) i m li
+        ∙ ap (λ (C : Config). posted m (taken (message d i) C)) (counters-mean d (counter d) (cell d) (message d) s p n ls lp)
+
+    pub cell-and-slot-mean : (c : ℕ) → Reads L d e (counter d) (withCell (cell d) s p c) (withSlot (message d) i m)
+        → meaning L e ≡ posted m (taken (message d i) ((rec-T (s, p) ≔ eqb c 1) (meaning L d)))
+    cell-and-slot-mean c r =
+        reads-mean d e r
+        ∙ slots-mean d (counter d) (withCell (cell d) s p c) (message d) i m li
+        ∙ ap (λ (C : Config). posted m (taken (message d i) C)) (cells-mean d (counter d) (cell d) (message d) s p c ls lp)
+
+    pub all-three-mean : (n c : ℕ) → Reads L d e (withCell (counter d) s p n) (withCell (cell d) s p c) (withSlot (message d) i m)
+        → meaning L e ≡ posted m (taken (message d i) ((rec-T (s, p) ≔ eqb c 1) ((send-T (s, p) ≔ n) (meaning L d))))
+    all-three-mean n c r =
+        reads-mean d e r
+        ∙ slots-mean d (withCell (counter d) s p n) (withCell (cell d) s p c) (message d) i m li
+        ∙ ap (λ (C : Config). posted m (taken (message d i) C))
+        (cells-mean d (withCell (counter d) s p n) (cell d) (message d) s p c ls lp
+        ∙ ap (rec-T (s, p) ≔ eqb c 1) (counters-mean d (counter d) (cell d) (message d) s p n ls lp))

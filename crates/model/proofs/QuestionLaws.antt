@@ -1,16 +1,18 @@
 -- Laws of the questions over the numbers below n: what a counting loop asks of each, and what an answer says.
 use Prim.Native.Nat.{ℕ, zero, suc, _+_, _-_, _≤_, _<_}
-use mathlib.Core.Path.{_≡_, refl, _∙_}
+use mathlib.Core.Path.{_≡_, refl, sym, _∙_}
 use mathlib.Core.Bool.{Bool, true, false, _&&_, _||_, cond}
 use mathlib.Core.List.{[], _∷_}
 use mathlib.Core.Logic.{⊎-elim}
 use native.Mathlib.Nat.{eq-or-lt-of-le, le-of-suc-le-suc, not-suc-le-zero}
 use native.Mathlib.Numerals.{add-one}
 use native.Mathlib.Omega.{arith}
+use lib.Dec.{ltb}
 use lib.ListN.{length, getD, length-append, List·getD-append}
 use lib.Seq.{getD-at}
-use Rattle.model.specs.Questions.{every, some, lowestFrom, total, upTo}
-use Rattle.model.proofs.TestLaws.{and-both, or-neither}
+use borrow.Author.Tests.{ltb-true, ltb-false}
+use Rattle.model.specs.Questions.{every, some, lowestFrom, lowest, total, upTo}
+use Rattle.model.proofs.TestLaws.{true-not-false, and-both, or-neither}
 
 -- ---- every
 pub every-more : (P : ℕ → Bool) (i : ℕ) {ok : Bool} → ok ≡ every i P → (ok && P i) ≡ every (i + 1) P
@@ -32,6 +34,14 @@ unfolding every
 every-all P zero h = refl
 every-all P (suc n) h = rw (every-all P n (λ i l. h i (omega arith)), h n (omega arith))
 
+-- one that fails fails all
+pub every-not : (P : ℕ → Bool) (n i : ℕ) → i < n → P i ≡ false → every n P ≡ false
+every-not P n i l e = go (every n P) (every-at P n i l)
+  where
+    go : (b : Bool) → (b ≡ true → P i ≡ true) → b ≡ false
+    go true f = let t = f refl in true-not-false cc
+    go false f = refl
+
 -- ---- some
 pub some-more : (P : ℕ → Bool) (i : ℕ) {found : Bool} → found ≡ some i P → (found || P i) ≡ some (i + 1) P
 unfolding some
@@ -46,6 +56,20 @@ some-none P zero i l e = absurd (not-suc-le-zero l)
 some-none P (suc n) i l e =
     let b = or-neither (some n P) (P n) e in
     ⊎-elim (λ q. rw q (b .1)) (λ lt. some-none P n i lt (b .0)) (eq-or-lt-of-le (le-of-suc-le-suc l))
+
+-- one that holds is some
+pub some-there : (P : ℕ → Bool) (n i : ℕ) → i < n → P i ≡ true → some n P ≡ true
+some-there P n i l e = go (some n P) refl
+  where
+    go : (x : Bool) → some n P ≡ x → some n P ≡ true
+    go true ex = ex
+    go false ex = true-not-false (sym e ∙ some-none P n i l ex)
+
+-- none that holds is not some
+pub some-nowhere : (P : ℕ → Bool) (n : ℕ) → ((i : ℕ) → i < n → P i ≡ false) → some n P ≡ false
+unfolding some
+some-nowhere P zero h = refl
+some-nowhere P (suc n) h = rw (some-nowhere P n (λ i l. h i (omega arith)), h n (omega arith))
 
 -- ---- the lowest, from i on: found at i, or from i + 1 on, or nowhere
 pub lowest-here : (P : ℕ → Bool) (i n : ℕ) → i < n → P i ≡ true → lowestFrom i (n - i) P ≡ i
@@ -80,6 +104,54 @@ lowest-most P i (suc n) = go (P i) (lowest-most P (i + 1) n)
     go : (b : Bool) → lowestFrom (i + 1) n P ≤ i + 1 + n → cond b i (lowestFrom (i + 1) n P) ≤ i + suc n
     go true h = omega arith
     go false h = omega arith
+
+-- nothing below the lowest has it
+pub lowest-below : (P : ℕ → Bool) (i n k : ℕ) → i ≤ k → k < lowestFrom i n P → P k ≡ false
+unfolding lowestFrom
+lowest-below P i zero k low l = absurd (omega arith)
+lowest-below P i (suc n) k low l = go (P i) refl (lowest-below P (i + 1) n k) l
+  where
+    go : (b : Bool) → P i ≡ b → (i + 1 ≤ k → k < lowestFrom (i + 1) n P → P k ≡ false) → k < cond b i (lowestFrom (i + 1) n P) → P k ≡ false
+    go true e later l = absurd (omega arith)
+    go false e later l = ⊎-elim (λ q. rw q at e) (λ lt. later (omega arith) l) (eq-or-lt-of-le low)
+
+-- one that holds is not below the lowest
+pub lowest-low : (P : ℕ → Bool) (n i : ℕ) → P i ≡ true → lowest n P ≤ i
+lowest-low P n i e = go (ltb i (lowest n P)) refl
+  where
+    go : (b : Bool) → ltb i (lowest n P) ≡ b → lowest n P ≤ i
+    go true t = let f = lowest-below P 0 n i (omega arith) (ltb-true i (lowest n P) t) in true-not-false cc
+    go false t = ltb-false i (lowest n P) t
+
+-- where none has it the lowest is n
+pub lowest-nowhere : (P : ℕ → Bool) (n : ℕ) → ((i : ℕ) → i < n → P i ≡ true → ⊥) → n ≤ lowest n P
+lowest-nowhere P n none = go (ltb (lowest n P) n) refl
+  where
+    go : (b : Bool) → ltb (lowest n P) n ≡ b → n ≤ lowest n P
+    go true t =
+        let l = ltb-true (lowest n P) n t in
+        absurd (none (lowest n P) l (lowest-has P 0 n (omega arith)))
+    go false t = ltb-false (lowest n P) n t
+
+-- some has it where the lowest is below n
+pub some-lowest : (P : ℕ → Bool) (n : ℕ) → some n P ≡ ltb (lowest n P) n
+some-lowest P n = go (ltb (lowest n P) n) refl
+  where
+    go : (b : Bool) → ltb (lowest n P) n ≡ b → some n P ≡ b
+    go true e = some-there P n (lowest n P) (ltb-true _ _ e) (lowest-has P 0 n (omega (arith, ltb-true (lowest n P) n e)))
+    go false e = some-nowhere P n (λ i l. lowest-below P 0 n i (omega arith) (omega (arith, ltb-false (lowest n P) n e)))
+
+-- and the lowest has it
+pub some-has : (P : ℕ → Bool) (n : ℕ) → some n P ≡ true → (lowest n P < n) × (P (lowest n P) ≡ true)
+some-has P n e =
+    let l = ltb-true (lowest n P) n (sym (some-lowest P n) ∙ e) in
+    (l, lowest-has P 0 n (omega arith))
+
+-- two tests that agree on the numbers have the same lowest
+pub lowest-same : (P Q : ℕ → Bool) (i n : ℕ) → ((k : ℕ) → i ≤ k → k < i + n → P k ≡ Q k) → lowestFrom i n P ≡ lowestFrom i n Q
+unfolding lowestFrom
+lowest-same P Q i zero h = refl
+lowest-same P Q i (suc n) h = rw (h i (omega arith) (omega arith), lowest-same P Q (i + 1) n (λ k low l. h k (omega arith) (omega arith)))
 
 -- ---- total
 pub total-more : (f : ℕ → ℕ) (i : ℕ) → total (i + 1) f ≡ total i f + f i

@@ -1,21 +1,20 @@
 -- An order of tests is a table of rows: each test decides its row's reason.
-use Prim.Native.Nat.{ℕ, zero, suc, _+_, _≤_, _<_}
+use Prim.Native.Nat.{ℕ, suc, _≤_, _<_}
 use mathlib.Core.Path.{_≡_, refl, sym, _∙_}
 use mathlib.Core.Logic.{_≢_, _⊎_, inl, inr}
-use mathlib.Core.Bool.{Bool, true, false, _&&_, _||_, not, cond}
+use mathlib.Core.Bool.{Bool, true, false, _&&_, not}
 use mathlib.Core.List.{List, [], _∷_}
-use native.Mathlib.Decide.{ℕ-discrete, decLt}
 use native.Mathlib.Omega.{arith}
 use lib.Dec.{leb, ltb, eqb}
 use borrow.Author.Tests.{eqb-true, eqb-false, eq-eqb, ne-eqb, leb-true, le-leb, ltb-false, le-ltb, not-true}
 use Rattle.model.specs.declared.Posted.{Posted}
 use Rattle.model.specs.declared.Posted.the-variants.{Copy, Dec as Decr, IncDec, Nothing}
 use Rattle.model.specs.Refusals.{_when_, _orElse_}
-use Rattle.model.specs.Questions.{some, lowestFrom, lowest}
+use Rattle.model.specs.Questions.{lowest}
 use Rattle.model.specs.Messages.{isIncDec}
 use Rattle.model.specs.Demands.{Row, _because_, FirstOf}
 use Rattle.model.proofs.TestLaws.{true-not-false, and-both, and-false}
-use Rattle.model.proofs.QuestionLaws.{some-none, lowest-has, lowest-most}
+use Rattle.model.proofs.QuestionLaws.{lowest-below, lowest-nowhere}
 
 -- ---- an order of tests is a table of rows
 -- a test that decides its row's reason, before the rows that follow
@@ -36,11 +35,6 @@ unfolding FirstOf
 no-rows = refl
 
 -- ---- tests as reasons
--- ---- the order has no brackets
-pub or-else-assoc : (a b c : ℕ) → (a orElse b) orElse c ≡ a orElse (b orElse c)
-or-else-assoc zero b c = refl
-or-else-assoc (suc a) b c = refl
-
 pub false-when : (b : Bool) → b ≡ false → not b ≡ true
 false-when b e = rw e
 
@@ -83,29 +77,13 @@ pub not-held-back : (from owner cell : ℕ) → (from ≢ owner) × (cell ≡ 0)
 not-held-back from owner cell why = rw (ne-eqb from owner (why .0), eq-eqb cell 0 (why .1))
 
 -- the lowest empty slot is the slot count just where no slot is empty
-lowest-passes : (P : ℕ → Bool) (i n : ℕ) → lowestFrom i n P ≡ i + n → (j : ℕ) → i ≤ j → j < i + n → P j ≡ false
-unfolding lowestFrom
-lowest-passes P i zero e j lo hi = absurd (omega arith)
-lowest-passes P i (suc n) e j lo hi = go (P i) refl e (lowest-passes P (i + 1) n) (ℕ-discrete j i)
-  where
-    go : (b : Bool) → P i ≡ b → cond b i (lowestFrom (i + 1) n P) ≡ i + suc n
-        → (lowestFrom (i + 1) n P ≡ i + 1 + n → (j : ℕ) → i + 1 ≤ j → j < i + 1 + n → P j ≡ false) → Dec (j ≡ i) → P j ≡ false
-    go true q e later _ = absurd (omega arith)
-    go false q e later (yes same) = rw same q
-    go false q e later (no apart) = later (omega arith) j (omega arith) (omega arith)
-
 pub none-lowest : (P : ℕ → Bool) (n : ℕ) → leb n (lowest n P) ≡ true → (i : ℕ) → i < n → P i ≡ false
 none-lowest P n e i l =
-    let most = lowest-most P 0 n in
     let least = leb-true n (lowest n P) e in
-    lowest-passes P 0 n (omega arith) i (omega arith) (omega arith)
+    lowest-below P 0 n i (omega arith) (omega arith)
 
 pub none-lowest-back : (P : ℕ → Bool) (n : ℕ) → ((i : ℕ) → i < n → P i ≡ false) → leb n (lowest n P) ≡ true
-none-lowest-back P n h = go (decLt (lowest n P) n)
-  where
-    go : Dec (lowest n P < n) → leb n (lowest n P) ≡ true
-    go (yes l) = true-not-false (sym (lowest-has P 0 n (omega arith)) ∙ h (lowest n P) l)
-    go (no l) = le-leb n (lowest n P) (omega arith)
+none-lowest-back P n h = le-leb n (lowest n P) (lowest-nowhere P n (λ i l t. true-not-false (sym t ∙ h i l)))
 
 -- Held: some slot holds such an INC_DEC
 pub inc-dec-is : (a b p : ℕ) (m : Posted) → isIncDec a b p m ≡ true → (c : ℕ) × (m ≡ IncDec a b c p)
@@ -119,20 +97,3 @@ inc-dec-is a b p Nothing e = true-not-false (sym e)
 
 pub is-inc-dec : (a b c p : ℕ) → isIncDec a b p (IncDec a b c p) ≡ true
 is-inc-dec a b c p = rw (eq-eqb a a refl, eq-eqb b b refl, eq-eqb p p refl)
-
-pub some-found : (P : ℕ → Bool) (n : ℕ) → some n P ≡ true → (i : ℕ) × (i < n) × (P i ≡ true)
-unfolding some
-some-found P zero e = true-not-false (sym e)
-some-found P (suc n) e = go (some n P) (P n) refl refl e (some-found P n)
-  where
-    go : (x y : Bool) → some n P ≡ x → P n ≡ y → (x || y) ≡ true → (some n P ≡ true → (i : ℕ) × (i < n) × (P i ≡ true)) → (i : ℕ) × (i < suc n) × (P i ≡ true)
-    go true y ex ey e below = let b = below ex in (b .0, omega (arith, b .1), b .2)
-    go false true ex ey e below = (n, omega arith, ey)
-    go false false ex ey e below = true-not-false (sym e)
-
-pub some-there : (P : ℕ → Bool) (n i : ℕ) → i < n → P i ≡ true → some n P ≡ true
-some-there P n i l e = go (some n P) refl
-  where
-    go : (x : Bool) → some n P ≡ x → some n P ≡ true
-    go true ex = ex
-    go false ex = true-not-false (sym e ∙ some-none P n i l ex)

@@ -1,7 +1,7 @@
 -- What lent tables say that pass 1 and 2, and what an opening writes.
 use Prim.Native.Nat.{ℕ, zero, suc, _+_, _*_, _/_, _%_, _≤_, _<_}
 use mathlib.Core.Path.{_≡_, refl, _∙_}
-use mathlib.Core.Bool.{Bool, true, false, not}
+use mathlib.Core.Bool.{true, not}
 use mathlib.Core.List.{List, [], _∷_, _++_}
 use mathlib.Core.Logic.{⊎-elim}
 use native.Mathlib.Nat.{suc-mul, not-suc-le-zero, eq-or-lt-of-le, le-of-suc-le-suc}
@@ -9,13 +9,13 @@ use native.Mathlib.Omega.{arith}
 use lib.Dec.{eqb}
 use lib.ListN.{length, getD, length-append, length-map, List·getD-append}
 use lib.Seq.{getD-append-add}
-use borrow.Author.Tests.{leb-true, eqb-true, not-false, lt-ltb}
+use borrow.Author.Tests.{leb-true, ltb-true, eqb-true, not-false, lt-ltb}
 use Rattle.model.specs.Refusals.{_when_}
 use Rattle.model.specs.Calls.{lentRefusal}
 use Rattle.model.specs.Tables.{Desk, sizesGood, lengthsGood, shapeGood, allBelow, allSlotsGood, byteBelow, ownRow, ownRows}
 use Rattle.model.specs.Flat.{flat, place}
-use Rattle.model.proofs.TestLaws.{and-both, when-not, or-else-none}
-use Rattle.model.proofs.QuestionLaws.{every-all}
+use Rattle.model.proofs.TestLaws.{and-both, when-not, or-else-none, at-most-1}
+use Rattle.model.proofs.QuestionLaws.{every-at, every-all}
 use Rattle.model.proofs.PlaceLaws.{place-inside}
 
 -- ---- sizes and lengths
@@ -50,6 +50,11 @@ shaped s g sends receives pools e =
       whole-slots = eqb-true _ _ (e3 .1);
       few-slots = leb-true _ _ (e2 .1);
     }
+
+-- ---- bytes below a limit
+pub byte-below : (n : ℕ) (l : List ℕ) (i : ℕ) → i < length l → allBelow n l ≡ true → getD l i 0 < n
+unfolding allBelow
+byte-below n l i li e = ltb-true (getD l i 0) n (every-at (byteBelow n l) (length l) i li e)
 
 -- ---- lent tables that pass 1 and 2
 pub record Good (d : Desk) : Type 0 where
@@ -100,10 +105,6 @@ own-rows-at (suc n) owners s p ls lp =
     (eq-or-lt-of-le (le-of-suc-le-suc ls))
 
 -- every byte of the rows is 0 or 1
-at-most-1 : (b : Bool) → (1 when b) ≤ 1
-at-most-1 true = omega arith
-at-most-1 false = omega arith
-
 bits-of-both : (a b : List ℕ) → ((i : ℕ) → getD a i 0 ≤ 1) → ((i : ℕ) → getD b i 0 ≤ 1) → (i : ℕ) → getD (a ++ b) i 0 ≤ 1
 bits-of-both [] b ha hb i = hb i
 bits-of-both (x ∷ a) b ha hb zero = ha 0

@@ -1,4 +1,4 @@
--- Lemma 5 by the public shares: from an opened desk no share is negative, and the owner's counter is the sum of the shares of all other sites.
+-- Lemma 5 by the public shares: where the machine's invariant stands no share is negative, and the owner's counter is the sum of the shares of all other sites.
 use Prim.Native.Nat.{ℕ, zero, suc, _+_, _-_, _≤_, _<_}
 use mathlib.Core.Path.{_≡_, refl, sym, ap, ap₂, _∙_}
 use mathlib.Core.Logic.{_≢_}
@@ -8,18 +8,16 @@ use native.Mathlib.Omega.{arith}
 use lib.Dec.{eqb}
 use lib.IntN.{ℤ, pos, _+ℤ_, _-ℤ_, +ℤ-negℤ-cancel, pos-+ℤ-pos}
 use borrow.Author.Tests.{eq-eqb, ne-eqb, lt-ltb}
-use Rattle.moreau.specs.Transitions.{Guard, WeakGuard, _implies_}
 use Rattle.moreau.specs.Counts.{_unless_is_, ∑, X, Y}
-use Rattle.moreau.proofs.Counters.{share-never-negative, owner-counter-is-sum-of-shares}
+use Rattle.moreau.proofs.Shares.{owner-is-∑share}
 use Rattle.model.specs.Layout.{Layout}
 use Rattle.model.specs.Calls.{front}
 use Rattle.model.specs.Laws.{Laws}
 use Rattle.model.specs.Survey.{balance, sumℤ, shareNumber, sharePlus, shareMinus, shareOf, sharesOfOthers, share}
 use Rattle.model.specs.Meaning.{configOf, meaning}
-use Rattle.model.specs.Demands.{Reached}
 use Rattle.model.proofs.KeptLaws.{sent}
 use Rattle.model.proofs.ShareLaws.{plus-is-X, minus-is-Y}
-use Rattle.model.proofs.ReachedLaws.{Guarded, sound}
+use Rattle.model.proofs.ReachedLaws.{Stands}
 
 -- a difference that does not fall below 0
 whole : (plus minus : ℕ) → minus ≤ plus → balance plus minus ≡ pos (plus - minus)
@@ -39,18 +37,17 @@ sum-of-pos (suc n) f g h =
     ∙ pos-+ℤ-pos (∑ n g) (g n)
     ∙ ap pos (omega arith)
 
-module _ {D : Type 0} (L : Layout D) (W : Laws L) (May : Guard) (i : May implies WeakGuard) (guarded : Guarded L W May) {d : D} (r : Reached L d) (p : ℕ) (lp : p < L .pointers d) where
+module _ {D : Type 0} (L : Layout D) (W : Laws L) {d : D} (t : Stands L W d) (p : ℕ) (lp : p < L .pointers d) where
   open Layout L using (sites, owner, counter)
 
   -- Y is at most X, by the slots
   below : (s : ℕ) → s < sites d → s ≢ owner d p → shareMinus L d s p ≤ sharePlus L d s p
   unfolding configOf
   below s ls apart =
-      let t = sound L W May guarded r in
-      let h = share-never-negative i (t .reachable) p lp s apart in
+      let h = t .sound p lp .share s apart in
       omega (arith, plus-is-X L W d (t .good) s p ls lp, minus-is-Y L W d (t .good) s p ls lp)
 
-  -- From an opened desk no share is negative.
+  -- No share is negative.
   pub share-is-not-negative : (s : ℕ) → s < sites d → s ≢ owner d p → shareOf L d s p ≡ pos (sharePlus L d s p - shareMinus L d s p)
   share-is-not-negative s ls apart = whole (sharePlus L d s p) (shareMinus L d s p) (below s ls apart)
 
@@ -58,7 +55,7 @@ module _ {D : Type 0} (L : Layout D) (W : Laws L) (May : Guard) (i : May implies
   pub share-answer : (s : ℕ) → s < sites d → s ≢ owner d p → share L d s p ≡ record { number = 0; share = shareOf L d s p }
   unfolding share shareNumber front
   share-answer s ls apart =
-      rw (sound L W May guarded r .good, lt-ltb s (sites d) ls, lt-ltb p (L .pointers d) lp, ne-eqb s (owner d p) apart)
+      rw (t .good, lt-ltb s (sites d) ls, lt-ltb p (L .pointers d) lp, ne-eqb s (owner d p) apart)
 
   -- what a site adds to the sum
   one-share : (s : ℕ) → s < sites d → cond (eqb s (owner d p)) (pos 0) (shareOf L d s p) ≡ pos (X (meaning L d) p s - Y (meaning L d) p s unless s is owner d p)
@@ -68,7 +65,7 @@ module _ {D : Type 0} (L : Layout D) (W : Laws L) (May : Guard) (i : May implies
       go : Dec (s ≡ owner d p) → cond (eqb s (owner d p)) (pos 0) (shareOf L d s p) ≡ pos (cond (eqb s (owner d p)) 0 (X (meaning L d) p s - Y (meaning L d) p s))
       go (yes e) = rw (eq-eqb s (owner d p) e)
       go (no apart) =
-          let good = sound L W May guarded r .good in
+          let good = t .good in
           rw (ne-eqb s (owner d p) apart)
           (share-is-not-negative s ls apart ∙ ap pos (ap₂ (λ a b. a - b) (plus-is-X L W d good s p ls lp) (minus-is-Y L W d good s p ls lp)))
 
@@ -76,6 +73,5 @@ module _ {D : Type 0} (L : Layout D) (W : Laws L) (May : Guard) (i : May implies
   pub owner-counter-is-shares-of-others : sharesOfOthers L d p ≡ pos (counter d (owner d p) p)
   unfolding sharesOfOthers configOf
   owner-counter-is-shares-of-others =
-      let t = sound L W May guarded r in
       sum-of-pos (sites d) (λ s. cond (eqb s (owner d p)) (pos 0) (shareOf L d s p)) (λ s. X (meaning L d) p s - Y (meaning L d) p s unless s is owner d p) one-share
-      ∙ ap pos (sym (owner-counter-is-sum-of-shares i (t .reachable) p lp) ∙ sent L d (owner d p) p (W .owner-inside d (t .good) p lp) lp)
+      ∙ ap pos (sym (owner-is-∑share (meaning L d) (t .well-formed) p lp (t .sound p lp)) ∙ sent L d (owner d p) p (W .owner-inside d (t .good) p lp) lp)

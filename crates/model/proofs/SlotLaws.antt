@@ -5,12 +5,12 @@ use mathlib.Core.Logic.{_≢_}
 use mathlib.Core.Bool.{Bool, true, _&&_, cond}
 use mathlib.Core.List.{List, [], _∷_}
 use native.Mathlib.Decide.{ℕ-discrete, decLt}
-use native.Mathlib.Nat.{not-suc-le-zero, add-zero}
+use native.Mathlib.Nat.{not-suc-le-zero, add-zero, suc-mul, mul-le-mul-right}
 use native.Mathlib.Omega.{arith}
 use lib.Dec.{eqb, leb, ltb}
 use lib.ListN.{length, getD, set, length-set}
 use lib.Seq.{sets, length-sets, getD-set-same, getD-set-other}
-use borrow.Author.Tests.{ne-eqb, leb-true, ltb-true, lt-ltb}
+use borrow.Author.Tests.{eqb-true, ne-eqb, leb-true, ltb-true, lt-ltb}
 use Rattle.model.specs.declared.Posted.{Posted}
 use Rattle.model.specs.declared.Posted.the-variants.{Copy, Dec as Decr, IncDec, Nothing}
 use Rattle.model.specs.Messages.{slotOf, messageOf, isNothing}
@@ -36,8 +36,18 @@ inside-a-run (v ∷ vs) l i (suc k) h lk =
     let e : i + suc k ≡ suc i + k = omega arith in
     rw e (inside-a-run vs (set l i v) (suc i) k (omega (arith, length-set l i v)) (omega arith))
 
+-- a run of w bytes in slot i leaves every other slot of w bytes
+pub run-leaves-other-slot : (w : ℕ) (vs l : List ℕ) (i j k : ℕ) → length vs ≡ w → k < w → j ≢ i → getD (sets l (i * w) vs) (j * w + k) 0 ≡ getD l (j * w + k) 0
+run-leaves-other-slot w vs l i j k long lk apart = go (decLt j i)
+  where
+    go : Dec (j < i) → getD (sets l (i * w) vs) (j * w + k) 0 ≡ getD l (j * w + k) 0
+    go (yes less) = below-a-run vs l (i * w) (j * w + k) (omega (arith, suc-mul j w, mul-le-mul-right w less))
+    go (no not-less) =
+        let more : i < j = omega arith in
+        above-a-run vs l (i * w) (j * w + k) (omega (arith, suc-mul i w, mul-le-mul-right w more))
+
 -- ---- five bytes stored in slot i
-five-bytes : (m : Posted) → length (slotOf m) ≡ 5
+pub five-bytes : (m : Posted) → length (slotOf m) ≡ 5
 five-bytes (Copy a b p) = refl
 five-bytes (Decr a b p) = refl
 five-bytes (IncDec a b c p) = refl
@@ -54,13 +64,9 @@ bytes-read-back f l i kind from to third p h =
 bytes-of-other-slot : {A : Type 0} (f : ℕ → ℕ → ℕ → ℕ → ℕ → A) (l : List ℕ) (i : ℕ) (m : Posted) (j : ℕ) → j ≢ i
     → atSlot f (sets l (i * 5) (slotOf m)) j ≡ atSlot f l j
 bytes-of-other-slot f l i m j apart =
-    let at : (k : ℕ) → k < 5 → getD (sets l (i * 5) (slotOf m)) (j * 5 + k) 0 ≡ getD l (j * 5 + k) 0 = λ k lk. go k lk (decLt j i) in
+    let at : (k : ℕ) → k < 5 → getD (sets l (i * 5) (slotOf m)) (j * 5 + k) 0 ≡ getD l (j * 5 + k) 0 = λ k lk. run-leaves-other-slot 5 (slotOf m) l i j k (five-bytes m) lk apart in
     let first : getD (sets l (i * 5) (slotOf m)) (j * 5) 0 ≡ getD l (j * 5) 0 = rw (add-zero (j * 5)) at (at 0 (omega arith)) in
     λ w. f (first w) (at 1 (omega arith) w) (at 2 (omega arith) w) (at 3 (omega arith) w) (at 4 (omega arith) w)
-  where
-    go : (k : ℕ) → k < 5 → Dec (j < i) → getD (sets l (i * 5) (slotOf m)) (j * 5 + k) 0 ≡ getD l (j * 5 + k) 0
-    go k lk (yes l′) = below-a-run (slotOf m) l (i * 5) (j * 5 + k) (omega arith)
-    go k lk (no l′) = above-a-run (slotOf m) l (i * 5) (j * 5 + k) (omega (arith, five-bytes m))
 
 -- ---- the message of slot i
 message-reads-back : (l : List ℕ) (i : ℕ) (m : Posted) → i * 5 + 5 ≤ length l → messageAt (sets l (i * 5) (slotOf m)) i ≡ m
@@ -97,15 +103,23 @@ store-keeps-slots-good s g l i m li w e =
     go j lj (yes q) = rw q (good-bytes s g l i m (omega arith) w)
     go j lj (no apart) = bytes-of-other-slot (slotGood s g) l i m j apart ∙ every-at (atSlot (slotGood s g) l) (slotsOf l) j lj e
 
--- what a good slot that is not empty says of its bytes
-record Full (s g kind from to third p : ℕ) : Type 0 where
-  known-kind : kind ≤ 3
-  from-site : from < s
-  to-site : to < s
-  third-site : cond (eqb kind 3) (ltb third s) (eqb third 0) ≡ true
-  a-pointer : p < g
+-- what a good slot says of its bytes: an empty one has zeros
+pub empty-zeros : (from to third p : ℕ) → (eqb from 0 && eqb to 0 && eqb third 0 && eqb p 0) ≡ true → (from ≡ 0) × (to ≡ 0) × (third ≡ 0) × (p ≡ 0)
+empty-zeros from to third p e =
+    let e1 = and-both (eqb from 0 && eqb to 0 && eqb third 0) (eqb p 0) e in
+    let e2 = and-both (eqb from 0 && eqb to 0) (eqb third 0) (e1 .0) in
+    let e3 = and-both (eqb from 0) (eqb to 0) (e2 .0) in
+    (eqb-true from 0 (e3 .0), eqb-true to 0 (e3 .1), eqb-true third 0 (e2 .1), eqb-true p 0 (e1 .1))
 
-full : (s g kind from to third p : ℕ) → slotGood s g kind from to third p ≡ true → kind ≢ 0 → Full s g kind from to third p
+-- and another
+pub record Full (s g kind from to third p : ℕ) : Type 0 where
+  pub known-kind : kind ≤ 3
+  pub from-site : from < s
+  pub to-site : to < s
+  pub third-site : cond (eqb kind 3) (ltb third s) (eqb third 0) ≡ true
+  pub a-pointer : p < g
+
+pub full : (s g kind from to third p : ℕ) → slotGood s g kind from to third p ≡ true → kind ≢ 0 → Full s g kind from to third p
 full s g kind from to third p e n =
     let third-good : Bool = cond (eqb kind 3) (ltb third s) (eqb third 0) in
     let e1 : (leb kind 3 && ltb from s && ltb to s && third-good && ltb p g) ≡ true = rw (ne-eqb kind 0 n) at e in

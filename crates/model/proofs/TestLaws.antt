@@ -1,6 +1,6 @@
 -- Laws of tests, and of an order of refusals.
-use Prim.Native.Nat.{ℕ, zero, suc}
-use mathlib.Core.Path.{_≡_, refl, sym}
+use Prim.Native.Nat.{ℕ, zero, suc, _≤_}
+use mathlib.Core.Path.{_≡_, refl, sym, _∙_}
 use mathlib.Core.Bool.{Bool, true, false, _&&_, _||_}
 use native.Mathlib.Omega.{arith}
 use Rattle.model.specs.declared.Answer.{Answer}
@@ -48,6 +48,28 @@ or-else-none (suc m) n e = absurd (omega arith)
 pub or-else-first : (m n : ℕ) → (m ≡ 0 → ⊥) → m ≡ m orElse n
 or-else-first zero n given = absurd (given refl)
 or-else-first (suc m) n given = refl
+
+-- and is the order's
+pub number-first : (n m k : ℕ) → (n ≡ 0 → ⊥) → n ≡ m → n ≡ m orElse k
+number-first n m k given e = e ∙ or-else-first m k (λ z. given (e ∙ z))
+
+-- the order has no brackets
+pub or-else-assoc : (a b c : ℕ) → (a orElse b) orElse c ≡ a orElse (b orElse c)
+or-else-assoc zero b c = refl
+or-else-assoc (suc a) b c = refl
+
+-- an order of numbers up to k gives none above k
+pub or-else-most : (m n k : ℕ) → m ≤ k → n ≤ k → (m orElse n) ≤ k
+or-else-most zero n k a b = b
+or-else-most (suc m) n k a b = a
+
+pub at-most-1 : (b : Bool) → (1 when b) ≤ 1
+at-most-1 true = omega arith
+at-most-1 false = omega arith
+
+pub when-most : (n : ℕ) (b : Bool) (k : ℕ) → n ≤ k → (n when b) ≤ k
+when-most n true k l = l
+when-most n false k l = omega arith
 
 -- ---- a call's outcome, at each place where its code returns: m is the front's number, k the call's own
 module _ {D : Type 0} (d : D) (o : Outcome D) where

@@ -3,9 +3,10 @@ use Prim.Native.Nat.{ℕ, _-_, _<_}
 use mathlib.Core.Path.{_≡_, refl}
 use mathlib.Core.Logic.{_≢_, _↔_}
 use mathlib.Core.Bool.{true}
+use mathlib.Core.List.{[], _∷_}
 use lib.Dec.{eqb}
 use lib.IntN.{pos}
-use lib.ListN.{length}
+use lib.ListN.{length, getD}
 use Rattle.moreau.specs.StateSpace.{Msg, DEC, INC-DEC, ⟅_⟆, initial}
 use Rattle.moreau.specs.Transformers.{MayCopy, MayReceive, MayDelete}
 use Rattle.moreau.specs.Transitions.{PaperGuard}
@@ -15,12 +16,12 @@ use Rattle.model.specs.declared.Call.{Call}
 use Rattle.model.specs.declared.Call.the-variants.{MakeCopy, Receive, Delete, Ask}
 use Rattle.model.specs.Refusals.{_when_}
 use Rattle.model.specs.Answers.{accepted, refused}
-use Rattle.model.specs.Calls.{lowestEmpty, lentRefusal, openRefusal, openDesk, replied, step}
-use Rattle.model.specs.Survey.{inFlight, sharePlus, shareMinus, shareOf, sharesOfOthers, share}
+use Rattle.model.specs.Calls.{heldRefusal, lowestEmpty, lentRefusal, openDesk, replied, step}
+use Rattle.model.specs.Survey.{inFlight, sharePlus, shareMinus, shareOf, sharesOfOthers, share, sheetNumber}
 use Rattle.model.specs.Tables.{Desk}
-use Rattle.model.specs.Flat.{flat, heldRefusal}
+use Rattle.model.specs.Flat.{flat}
 use Rattle.model.specs.Meaning.{meant, meaning}
-use Rattle.model.specs.Demands.{FirstOf, _among_, listed, openRows, rowsOf, names, controls, MakesCopy, Receives, Deletes, Reached, Quiet}
+use Rattle.model.specs.Demands.{FirstOf, _among_, listed, openRows, heldRows, rowsOf, TellsEarly, shareRows, sheetRows, LowestEmpty, names, controls, MakesCopy, Receives, Deletes, Reached, Quiet}
 use Rattle.model.proofs.FlatLaws.{flat-laws}
 use Rattle.model.proofs.ShapeLaws.{Shaped}
 use Rattle.model.proofs.InWords as in-words
@@ -28,18 +29,26 @@ use Rattle.model.proofs.MeaningLaws as meaning-laws
 use Rattle.model.proofs.Exactly as exactly
 use Rattle.model.proofs.Demand1 as demand-1
 use Rattle.model.proofs.Demand2 as demand-2
+use Rattle.model.proofs.Placed as placed
 use Rattle.model.proofs.Converse as converse
 use Rattle.model.proofs.Demand3 as demand-3
 use Rattle.model.proofs.Shares as shares
 use Rattle.model.proofs.Lemma4 as lemma-4
-use Rattle.model.proofs.ReachedLaws.{Guarded, guarded-by-held}
+use Rattle.model.proofs.ReachedLaws.{Stands}
+use Rattle.model.proofs.ReachedLaws as reached-laws
 
 -- its test of a message that comes too early is Held
 held : (d : Desk) (slot : ℕ) → flat .early d slot ≡ heldRefusal (flat .slots d) (flat .message d) (flat .message d slot)
 held d slot = refl
 
-guarded : Guarded flat flat-laws PaperGuard
-guarded = guarded-by-held flat flat-laws held
+tells : TellsEarly flat (heldRows flat)
+tells = exactly.held-tells flat held
+
+-- on every reached desk the machine's invariant stands
+stands : {d : Desk} → Reached flat d → Stands flat flat-laws d
+stands r =
+    reached-laws.stands flat flat-laws PaperGuard paper-guard
+    (reached-laws.in-reach flat flat-laws PaperGuard (λ d r s. reached-laws.guarded-by-held flat flat-laws held d) r)
 
 -- ---- demand 1
 -- A refused call leaves all lent memory as it was, with value 0 and no message.
@@ -48,9 +57,12 @@ refused-leaves-all = demand-1.refused-leaves-all flat
 
 -- Its number is one of those that document 01 lists for the call.
 pub refused-by-listed : (d : Desk) (c : Call) → step flat d c .answer .number ≢ 0 → step flat d c .answer .number among listed c
-refused-by-listed = demand-1.refused-by-listed flat held
+refused-by-listed = demand-1.refused-by-listed flat tells
 
 -- The same of an opening; and an accepted one makes the initial configuration of the machine.
+pub refused-opening-by-a-row : (d : Desk) → openDesk flat d .answer .number ≢ 0 → openDesk flat d .answer .number among (1 ∷ 2 ∷ [])
+refused-opening-by-a-row = demand-1.refused-opening-by-a-row flat
+
 pub refused-opening-leaves-all : (d : Desk) → openDesk flat d .answer .number ≢ 0 → openDesk flat d ≡ record { answer = refused (openDesk flat d .answer .number); desk = d }
 refused-opening-leaves-all = demand-1.refused-opening-leaves-all flat
 
@@ -62,15 +74,24 @@ opening-means = meaning-laws.opening-means flat flat-laws
 pub shape-in-words : (d : Desk) → (flat .shaped d ≡ true) ↔ Shaped (d .S) (length (d .owners)) (length (d .send)) (length (d .receive)) (length (d .pool))
 shape-in-words = in-words.shape-in-words
 
-pub sound-in-words : (d : Desk) → (flat .sound d ≡ true) ↔ in-words.Sound d
+pub sound-in-words : (d : Desk) → (flat .sound d ≡ true) ↔ in-words.GoodTables d
 sound-in-words = in-words.sound-in-words
 
--- A number is given exactly where the table of the call says so.
-pub call-exactly : (d : Desk) (c : Call) → FirstOf (rowsOf flat d c) (step flat d c .answer .number)
-call-exactly = exactly.call-exactly flat held
+pub owned-in-words : (d : Desk) → (flat .owned d ≡ true) ↔ ((p : ℕ) → p < length (d .owners) → getD (d .owners) p 0 < d .S)
+owned-in-words = in-words.owned-in-words
 
-pub open-exactly : (d : Desk) → FirstOf (openRows flat d) (openRefusal flat d)
+-- A number is given exactly where the table of the call says so.
+pub call-exactly : (d : Desk) (c : Call) → FirstOf (rowsOf flat (heldRows flat) d c) (step flat d c .answer .number)
+call-exactly = exactly.call-exactly flat (heldRows flat) tells
+
+pub open-exactly : (d : Desk) → FirstOf (openRows flat d) (openDesk flat d .answer .number)
 open-exactly = exactly.open-exactly flat
+
+pub share-exactly : (d : Desk) (site p : ℕ) → FirstOf (shareRows flat d site p) (share flat d site p .number)
+share-exactly = exactly.share-exactly flat
+
+pub sheet-exactly : (d : Desk) (p : ℕ) → FirstOf (sheetRows flat d p) (sheetNumber flat d p)
+sheet-exactly = exactly.sheet-exactly flat
 
 -- An accepted make copy is MAKE_COPY, an accepted receive is RECEIVE under the published guard, an accepted delete is DELETE; ask changes nothing.
 pub copy-transition : (d : Desk) (from to p : ℕ) → step flat d (MakeCopy from to p) .answer .number ≡ 0 → MakesCopy flat d (step flat d (MakeCopy from to p) .desk) from to p
@@ -100,48 +121,66 @@ pub ask-answer : (d : Desk) (site p : ℕ) → step flat d (Ask site p) .answer 
     → step flat d (Ask site p) .answer ≡ accepted (1 when eqb (flat .counter d (flat .owner d p) p) 0) Nothing
 ask-answer = demand-2.ask-answer flat
 
+-- The slot that make copy and delete name is the lowest empty one; what a call posts stands in its slot.
+pub copy-takes-lowest : (d : Desk) (from to p : ℕ) → step flat d (MakeCopy from to p) .answer .number ≡ 0 → LowestEmpty flat d (step flat d (MakeCopy from to p) .answer .value)
+copy-takes-lowest = placed.copy-takes-lowest flat flat-laws
+
+pub delete-takes-lowest : (d : Desk) (site p : ℕ) → step flat d (Delete site p) .answer .number ≡ 0 → LowestEmpty flat d (step flat d (Delete site p) .answer .value)
+delete-takes-lowest = placed.delete-takes-lowest flat flat-laws
+
+pub copy-posts : (d : Desk) (from to p : ℕ) → step flat d (MakeCopy from to p) .answer .number ≡ 0
+    → flat .message (step flat d (MakeCopy from to p) .desk) (lowestEmpty flat d) ≡ Copy from to p
+copy-posts = placed.copy-posts flat flat-laws
+
+pub delete-posts : (d : Desk) (site p : ℕ) → step flat d (Delete site p) .answer .number ≡ 0
+    → flat .message (step flat d (Delete site p) .desk) (lowestEmpty flat d) ≡ Decr site (flat .owner d p) p
+delete-posts = placed.delete-posts flat flat-laws
+
+pub receive-posts : (d : Desk) (slot : ℕ) → step flat d (Receive slot) .answer .number ≡ 0 → flat .message (step flat d (Receive slot) .desk) slot ≡ replied flat d slot
+receive-posts = placed.receive-posts flat flat-laws
+
 -- Where the machine permits a transition, the names are in range, a counter to be raised stands below 65,535, one to be lowered above 0, and a slot is empty where one is needed, the call is accepted.
 pub copy-permitted : (d : Desk) (from to p slot : ℕ) → lentRefusal flat d ≡ 0 → from < d .S → to < d .S → p < flat .pointers d → MayCopy from to p (meaning flat d)
     → flat .counter d from p < 65535 → slot < flat .slots d → flat .empty d slot ≡ true → step flat d (MakeCopy from to p) .answer .number ≡ 0
-copy-permitted = converse.copy-permitted flat flat-laws held
+copy-permitted = converse.copy-permitted flat flat-laws
 
 pub receive-permitted : (d : Desk) (slot : ℕ) (m : Msg) → lentRefusal flat d ≡ 0 → slot < flat .slots d → meant (flat .message d slot) ≡ ⟅ m ⟆ → MayReceive m
     → ((a b p : ℕ) → m ≡ DEC a b p → PaperGuard (meaning flat d) a b p)
     → ((a b p : ℕ) → m ≡ DEC a b p → 0 < flat .counter d b p) → ((a b p c : ℕ) → m ≡ INC-DEC a b p c → flat .counter d b p < 65535)
     → step flat d (Receive slot) .answer .number ≡ 0
-receive-permitted = converse.receive-permitted flat flat-laws held
+receive-permitted = converse.receive-permitted-held flat flat-laws held
 
 pub delete-permitted : (d : Desk) (site p slot : ℕ) → lentRefusal flat d ≡ 0 → site < d .S → p < flat .pointers d → MayDelete site p (meaning flat d)
     → slot < flat .slots d → flat .empty d slot ≡ true → step flat d (Delete site p) .answer .number ≡ 0
-delete-permitted = converse.delete-permitted flat flat-laws held
+delete-permitted = converse.delete-permitted flat flat-laws
 
 -- ---- demand 3
 -- From an opened desk, after any calls in any order: the owner's counter is 0 if and only if no other site holds the pointer and no message in flight names it.
 pub counter-zero-iff-quiet : {d : Desk} → Reached flat d → (p : ℕ) → p < flat .pointers d → (flat .counter d (flat .owner d p) p ≡ 0) ↔ Quiet flat d p
-counter-zero-iff-quiet = demand-3.counter-zero-iff-quiet flat flat-laws PaperGuard paper-guard guarded
+counter-zero-iff-quiet r = demand-3.counter-zero-iff-quiet flat flat-laws (stands r)
 
 -- Ask answers 1 exactly when the pointer is quiet.
 pub ask-says-quiet : {d : Desk} → Reached flat d → (p : ℕ) → p < flat .pointers d → (step flat d (Ask (flat .owner d p) p) .answer ≡ accepted 1 Nothing) ↔ Quiet flat d p
-ask-says-quiet = demand-3.ask-says-quiet flat flat-laws PaperGuard paper-guard guarded
+ask-says-quiet r = demand-3.ask-says-quiet flat flat-laws (stands r)
 
 -- The incident: while any message names a pointer, ask at its owner answers 0.
 pub ask-waits-for-messages : {d : Desk} → Reached flat d → (p slot : ℕ) → p < flat .pointers d → slot < flat .slots d → names p (flat .message d slot) ≡ true
     → step flat d (Ask (flat .owner d p) p) .answer ≡ accepted 0 Nothing
-ask-waits-for-messages = demand-3.ask-waits-for-messages flat flat-laws PaperGuard paper-guard guarded
+ask-waits-for-messages r = demand-3.ask-waits-for-messages flat flat-laws (stands r)
 
 -- No share is negative, and the owner's counter is the sum of the shares of all other sites.
 pub share-is-not-negative : {d : Desk} → Reached flat d → (p : ℕ) → p < flat .pointers d → (s : ℕ) → s < d .S → s ≢ flat .owner d p
     → shareOf flat d s p ≡ pos (sharePlus flat d s p - shareMinus flat d s p)
-share-is-not-negative = shares.share-is-not-negative flat flat-laws PaperGuard paper-guard guarded
+share-is-not-negative r = shares.share-is-not-negative flat flat-laws (stands r)
 
 pub share-answer : {d : Desk} → Reached flat d → (p : ℕ) → p < flat .pointers d → (s : ℕ) → s < d .S → s ≢ flat .owner d p
     → share flat d s p ≡ record { number = 0; share = shareOf flat d s p }
-share-answer = shares.share-answer flat flat-laws PaperGuard paper-guard guarded
+share-answer r = shares.share-answer flat flat-laws (stands r)
 
 pub owner-counter-is-shares-of-others : {d : Desk} → Reached flat d → (p : ℕ) → p < flat .pointers d → sharesOfOthers flat d p ≡ pos (flat .counter d (flat .owner d p) p)
-owner-counter-is-shares-of-others = shares.owner-counter-is-shares-of-others flat flat-laws PaperGuard paper-guard guarded
+owner-counter-is-shares-of-others r = shares.owner-counter-is-shares-of-others flat flat-laws (stands r)
 
 -- Lemma 4: the counter of a site that is not the owner is the number of messages that act on it.
 pub counter-is-messages-under-control : {d : Desk} → Reached flat d → (p : ℕ) → p < flat .pointers d → (s : ℕ) → s < d .S → s ≢ flat .owner d p
     → flat .counter d s p ≡ inFlight flat d (controls s p)
-counter-is-messages-under-control = lemma-4.counter-is-messages-under-control flat flat-laws PaperGuard paper-guard guarded
+counter-is-messages-under-control r = lemma-4.counter-is-messages-under-control flat flat-laws (stands r)

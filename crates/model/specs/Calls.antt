@@ -3,12 +3,12 @@ use Prim.Native.Nat.{ℕ, _+_}
 use mathlib.Core.Bool.{Bool, _&&_, not}
 use lib.Dec.{leb, ltb, eqb}
 use Rattle.model.specs.declared.Posted.{Posted}
-use Rattle.model.specs.declared.Posted.the-variants.{Copy, Dec, Nothing}
+use Rattle.model.specs.declared.Posted.the-variants.{Copy, Dec, IncDec, Nothing}
 use Rattle.model.specs.declared.Call.{Call}
 use Rattle.model.specs.declared.Call.the-variants.{MakeCopy, Receive, Delete, Ask}
-use Rattle.model.specs.Refusals.{BadShape, BadTable, BadName, SameSite, NotHeld, CounterFull, PoolFull, EmptySlot, IsOwner, StillCounted, NotOwner, _when_, _orElse_}
-use Rattle.model.specs.Questions.{lowest}
-use Rattle.model.specs.Messages.{receiver, pointerOf, receiveRefusal, counterAfter, cellAfter, reply}
+use Rattle.model.specs.Refusals.{BadShape, BadTable, BadName, SameSite, NotHeld, CounterFull, PoolFull, EmptySlot, Held, IsOwner, StillCounted, NotOwner, _when_, _orElse_}
+use Rattle.model.specs.Questions.{some, lowest}
+use Rattle.model.specs.Messages.{receiver, pointerOf, receiveRefusal, counterAfter, cellAfter, reply, isIncDec}
 use Rattle.model.specs.Answers.{accepted, Outcome, unless}
 use Rattle.model.specs.Layout.{Layout}
 
@@ -19,6 +19,13 @@ copyRefusal from to owner cell counter slot slots =
     orElse NotHeld when (not (eqb from owner) && eqb cell 0)
     orElse CounterFull when eqb counter 65535
     orElse PoolFull when leb slots slot
+
+-- receive 9: DEC(a, b) while some of n slots holds an INC_DEC from a to b for that pointer, with any third site
+abbrev pub heldRefusal : ℕ → (ℕ → Posted) → Posted → ℕ
+heldRefusal n message (Copy a b p) = 0
+heldRefusal n message (Dec a b p) = Held when some n (λ slot. isIncDec a b p (message slot))
+heldRefusal n message (IncDec a b c p) = 0
+heldRefusal n message Nothing = 0
 
 -- delete 11, 5, 12, 7: of the owner, the site's cell and counter, the lowest empty slot and the slot count
 unfoldable pub deleteRefusal : ℕ → ℕ → ℕ → ℕ → ℕ → ℕ → ℕ

@@ -3,7 +3,7 @@ use Prim.Native.Nat.{ℕ, _≤_, _<_}
 use mathlib.Core.Path.{_≡_}
 use mathlib.Core.Logic.{_≢_, _⊎_}
 use mathlib.Core.Bool.{Bool, true, false, _&&_}
-use mathlib.Core.List.{List, [], _∷_}
+use mathlib.Core.List.{List, [], _∷_, _++_}
 use lib.Dec.{eqb}
 use Rattle.moreau.specs.StateSpace.{Msg, DEC, ⟅_⟆, _∈_}
 use Rattle.moreau.specs.Transformers.{unpost, MayCopy, MAKE-COPY, MayReceive, RECEIVE, MayDelete, DELETE}
@@ -12,7 +12,7 @@ use Rattle.model.specs.declared.Posted.{Posted}
 use Rattle.model.specs.declared.Posted.the-variants.{Copy, Dec, IncDec, Nothing}
 use Rattle.model.specs.declared.Call.{Call}
 use Rattle.model.specs.declared.Call.the-variants.{MakeCopy, Receive, Delete, Ask}
-use Rattle.model.specs.Refusals.{BadShape, BadTable, BadName, SameSite, NotHeld, CounterFull, PoolFull, EmptySlot, Held, CounterZero, IsOwner, StillCounted, NotOwner, _when_}
+use Rattle.model.specs.Refusals.{BadShape, BadTable, BadName, SameSite, NotHeld, CounterFull, PoolFull, EmptySlot, Held, CounterZero, IsOwner, StillCounted, NotOwner, _when_, _orElse_}
 use Rattle.model.specs.Layout.{Layout}
 use Rattle.model.specs.Calls.{openRefusal, openDesk, step}
 use Rattle.model.specs.Meaning.{meant, meaning}
@@ -58,7 +58,7 @@ controls s p (IncDec from to third q) = 1 when (eqb third s && eqb q p)
 controls s p Nothing = 0
 
 module _ {D : Type 0} (L : Layout D) where
-  open Layout L using (sites, pointers, owner, counter, cell, slots, empty, message, shaped, owned, sound)
+  open Layout L using (sites, pointers, owner, counter, cell, slots, empty, message, shaped, owned, sound, early)
 
   abbrev pub NoSlotEmpty : D → Type 0
   NoSlotEmpty d = (slot : ℕ) → slot < slots d → empty d slot ≡ false
@@ -94,19 +94,29 @@ module _ {D : Type 0} (L : Layout D) where
       ∷ PoolFull because (NoSlotEmpty d)
       ∷ []
 
-  -- COPY 4, DEC 9 and 10, INC_DEC 6
+  -- DEC 9: what comes too early in document 01
+  abbrev pub heldRowsOf : D → Posted → List Row
+  heldRowsOf d (Copy a b p) = []
+  heldRowsOf d (Dec a b p) = Held because (SomeIncDec d a b p) ∷ []
+  heldRowsOf d (IncDec a b c p) = []
+  heldRowsOf d Nothing = []
+
+  abbrev pub heldRows : D → ℕ → List Row
+  heldRows d slot = heldRowsOf d (message d slot)
+
+  -- COPY 4, DEC 10, INC_DEC 6
   abbrev pub messageRows : D → Posted → List Row
   messageRows d (Copy a b p) = SameSite because (a ≡ b) ∷ []
-  messageRows d (Dec a b p) = Held because (SomeIncDec d a b p) ∷ CounterZero because (counter d b p ≡ 0) ∷ []
+  messageRows d (Dec a b p) = CounterZero because (counter d b p ≡ 0) ∷ []
   messageRows d (IncDec a b c p) = CounterFull because (counter d b p ≡ 65535) ∷ []
   messageRows d Nothing = []
 
-  -- receive 3, 8, then the message's
-  abbrev pub receiveRows : D → ℕ → List Row
-  receiveRows d slot =
+  -- receive 3, 8, then what comes too early (9 in document 01), then the message's own
+  abbrev pub receiveRows : (D → ℕ → List Row) → D → ℕ → List Row
+  receiveRows earlyRows d slot =
       BadName because (slots d ≤ slot)
       ∷ EmptySlot because (empty d slot ≡ true)
-      ∷ messageRows d (message d slot)
+      ∷ (earlyRows d slot ++ messageRows d (message d slot))
 
   -- delete 3, 11, 5, 12, 7
   abbrev pub deleteRows : D → ℕ → ℕ → List Row
@@ -125,15 +135,33 @@ module _ {D : Type 0} (L : Layout D) where
       ∷ NotOwner because (site ≢ owner d p)
       ∷ []
 
-  abbrev pub ownRowsOf : D → Call → List Row
-  ownRowsOf d (MakeCopy from to p) = copyRows d from to p
-  ownRowsOf d (Receive slot) = receiveRows d slot
-  ownRowsOf d (Delete site p) = deleteRows d site p
-  ownRowsOf d (Ask site p) = askRows d site p
-
   -- the rows of a call: 1, 2, then its own
-  abbrev pub rowsOf : D → Call → List Row
-  rowsOf d c = lentRows d (ownRowsOf d c)
+  abbrev pub rowsOf : (D → ℕ → List Row) → D → Call → List Row
+  rowsOf earlyRows d (MakeCopy from to p) = lentRows d (copyRows d from to p)
+  rowsOf earlyRows d (Receive slot) = lentRows d (receiveRows earlyRows d slot)
+  rowsOf earlyRows d (Delete site p) = lentRows d (deleteRows d site p)
+  rowsOf earlyRows d (Ask site p) = lentRows d (askRows d site p)
+
+  -- these rows tell the layout's own test of what comes too early, whatever rows follow
+  abbrev pub TellsEarly : (D → ℕ → List Row) → Type 1
+  TellsEarly earlyRows = (d : D) (slot : ℕ) (rows : List Row) (rest : ℕ) → FirstOf rows rest → FirstOf (earlyRows d slot ++ rows) (early d slot orElse rest)
+
+  -- share 1, 2, 3, 11; sheet 1, 2, 3
+  abbrev pub shareRows : D → ℕ → ℕ → List Row
+  shareRows d site p =
+      lentRows d
+      (BadName because ((sites d ≤ site) ⊎ (pointers d ≤ p))
+      ∷ IsOwner because (site ≡ owner d p)
+      ∷ [])
+
+  abbrev pub sheetRows : D → ℕ → List Row
+  sheetRows d p = lentRows d (BadName because (pointers d ≤ p) ∷ [])
+
+  -- ---- a slot is the lowest empty one
+  pub record LowestEmpty (d : D) (slot : ℕ) : Type 0 where
+    pub in-pool : slot < slots d
+    pub empty-there : empty d slot ≡ true
+    pub none-below : (lower : ℕ) → lower < slot → empty d lower ≡ false
 
   -- ---- e is d after a transition of the published machine, on what the memory means: every counter, every cell, every message
   pub record MakesCopy (d e : D) (from to p : ℕ) : Type 0 where

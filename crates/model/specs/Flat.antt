@@ -3,24 +3,14 @@ use Prim.Native.Nat.{ℕ, _+_, _*_}
 use mathlib.Core.Bool.{_&&_}
 use lib.ListN.{length, getD, set, replicate}
 use lib.Seq.{sets}
-use Rattle.model.specs.declared.Posted.{Posted}
-use Rattle.model.specs.declared.Posted.the-variants.{Copy, Dec, IncDec, Nothing}
-use Rattle.model.specs.Refusals.{Held, _when_}
-use Rattle.model.specs.Questions.{some}
-use Rattle.model.specs.Messages.{slotOf, isIncDec}
+use Rattle.model.specs.Messages.{slotOf}
 use Rattle.model.specs.Layout.{Layout}
+use Rattle.model.specs.Calls.{heldRefusal}
 use Rattle.model.specs.Tables.{Desk, lent, shapeGood, allBelow, allSlotsGood, slotsOf, messageAt, emptyAt, ownRows}
 
 -- the place of the cell of site s and pointer p, for G pointers
 abbrev pub place : ℕ → ℕ → ℕ → ℕ
 place g s p = s * g + p
-
--- 9: DEC(a, b) while some of n slots holds an INC_DEC from a to b for that pointer, with any third site
-abbrev pub heldRefusal : ℕ → (ℕ → Posted) → Posted → ℕ
-heldRefusal n message (Copy a b p) = 0
-heldRefusal n message (Dec a b p) = Held when some n (λ slot. isIncDec a b p (message slot))
-heldRefusal n message (IncDec a b c p) = 0
-heldRefusal n message Nothing = 0
 
 abbrev pub flat : Layout Desk
 flat = record {

@@ -48,7 +48,6 @@ module _ {D : Type 0} (L : Layout D) where
   pub record Laws : Type 0 where
     -- what lent memory that passes 1 and 2 holds
     pub some-site : (d : D) → lentRefusal L d ≡ 0 → (1 ≤ sites d) × (sites d ≤ 64)
-    pub few-pointers : (d : D) → lentRefusal L d ≡ 0 → pointers d ≤ 256
     pub few-slots : (d : D) → lentRefusal L d ≡ 0 → slots d ≤ 1024
     pub owner-inside : (d : D) → lentRefusal L d ≡ 0 → (p : ℕ) → p < pointers d → owner d p < sites d
     pub cell-bit : (d : D) → lentRefusal L d ≡ 0 → (s p : ℕ) → s < sites d → p < pointers d → cell d s p ≤ 1

@@ -57,10 +57,10 @@ codeOf (Ask site p) = 4
 
 -- four bytes: 01 from to pointer; 02 slot high byte, slot low byte, 00; 03 site pointer 00; 04 site pointer 00
 abbrev pub bytesOf : Call → List ℕ
-bytesOf (MakeCopy from to p) = 1 ∷ from ∷ to ∷ p ∷ []
-bytesOf (Receive slot) = 2 ∷ slot / 256 ∷ slot % 256 ∷ 0 ∷ []
-bytesOf (Delete site p) = 3 ∷ site ∷ p ∷ 0 ∷ []
-bytesOf (Ask site p) = 4 ∷ site ∷ p ∷ 0 ∷ []
+bytesOf (MakeCopy from to p) = codeOf (MakeCopy from to p) ∷ from ∷ to ∷ p ∷ []
+bytesOf (Receive slot) = codeOf (Receive slot) ∷ slot / 256 ∷ slot % 256 ∷ 0 ∷ []
+bytesOf (Delete site p) = codeOf (Delete site p) ∷ site ∷ p ∷ 0 ∷ []
+bytesOf (Ask site p) = codeOf (Ask site p) ∷ site ∷ p ∷ 0 ∷ []
 
 -- eight digits and a newline
 unfoldable pub lineOf : Call → List ℕ
@@ -102,6 +102,11 @@ readLine line =
     cond (eqb (length line) 8)
     (readBytes (byteAt line 0) (byteAt line 1) (byteAt line 2) (byteAt line 3))
     (Refused BadLine)
+
+-- the number of a line; 0 where it says a call
+abbrev pub refusalIn : Read → ℕ
+refusalIn (Said call) = 0
+refusalIn (Refused n) = n
 
 -- ---- the lines of a text
 -- a character before the first line of what follows

@@ -16,10 +16,10 @@ kindOf Nothing = 0
 
 -- a message as slot bytes: kind, from, to, third, pointer; in a COPY or DEC third is 0; an empty slot is five zero bytes
 abbrev pub slotOf : Posted → List ℕ
-slotOf (Copy from to p) = 1 ∷ from ∷ to ∷ 0 ∷ p ∷ []
-slotOf (Dec from to p) = 2 ∷ from ∷ to ∷ 0 ∷ p ∷ []
-slotOf (IncDec from to third p) = 3 ∷ from ∷ to ∷ third ∷ p ∷ []
-slotOf Nothing = 0 ∷ 0 ∷ 0 ∷ 0 ∷ 0 ∷ []
+slotOf (Copy from to p) = kindOf (Copy from to p) ∷ from ∷ to ∷ 0 ∷ p ∷ []
+slotOf (Dec from to p) = kindOf (Dec from to p) ∷ from ∷ to ∷ 0 ∷ p ∷ []
+slotOf (IncDec from to third p) = kindOf (IncDec from to third p) ∷ from ∷ to ∷ third ∷ p ∷ []
+slotOf Nothing = kindOf Nothing ∷ 0 ∷ 0 ∷ 0 ∷ 0 ∷ []
 
 -- slot bytes as a message; a kind above 3 is none
 unfoldable pub messageOf : ℕ → ℕ → ℕ → ℕ → ℕ → Posted

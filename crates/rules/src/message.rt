@@ -2,7 +2,24 @@
 use crate::refusal::when;
 use model::Posted;
 ghost use mathlib.Core.Path.{_≡_};
-ghost use Rattle.model.specs.Messages.{receiver as receiverOf, pointerOf, receiveRefusal, counterAfter, cellAfter, reply as replyOf, isIncDec};
+ghost use Rattle.model.specs.Messages.{slotOf, receiver as receiverOf, pointerOf, receiveRefusal, counterAfter, cellAfter, reply as replyOf, isIncDec};
+
+// A message as slot bytes: kind, from, to, third, pointer.
+pub fn slot_bytes(m: Posted) -> [u8; 5]
+    ensures { λ r. ⌜ r ≡ slotOf m ⌝ }
+{
+    match m {
+        Posted::Copy { from, to, pointer } => [1, from, to, 0, pointer],
+        Posted::Dec { from, to, pointer } => [2, from, to, 0, pointer],
+        Posted::IncDec {
+            from,
+            to,
+            third,
+            pointer,
+        } => [3, from, to, third, pointer],
+        Posted::Nothing => [0, 0, 0, 0, 0],
+    }
+}
 
 // The site that receives it.
 pub fn receiver(m: Posted) -> u8

@@ -13,12 +13,11 @@ use Rattle.model.specs.Answers.{refused, Outcome}
 use Rattle.model.specs.Calls.{step}
 use Rattle.model.specs.Tables.{Desk}
 use Rattle.model.specs.Flat.{flat}
-use Rattle.model.specs.Lines.{readLine, linesOf, lineAt, pastAt}
+use Rattle.model.specs.Lines.{refusalIn, readLine, linesOf, lineAt, pastAt}
 use Rattle.model.specs.Transcript.{answerLine, obeyed, answers}
 use Rattle.lines.proofs.PlaceLaws.{lines-at, no-lines, past-later}
 use Rattle.lines.proofs.StoreLaws.{sets-then, length-answer-line}
 use Rattle.runner.specs.Run.{writtenAt}
-use Rattle.runner.specs.Opened.{refusalIn}
 
 -- the answers from a place on, still to be written, of all that are written past the first 17 bytes
 pub record Left (all before : List ℕ) (d : Desk) (text : List ℕ) (at : ℕ) (output : List ℕ) (end : ℕ) : Type 0 where

@@ -4,8 +4,6 @@ use mathlib.Core.Path.{_≡_}
 use mathlib.Core.Bool.{Bool, true, cond}
 use mathlib.Core.List.{List}
 use lib.ListN.{length}
-use Rattle.model.specs.declared.Read.{Read}
-use Rattle.model.specs.declared.Read.the-variants.{Said}
 use Rattle.model.specs.Refusals.{BadShape, BadLine}
 use Rattle.model.specs.Tables.{shapeGood}
 use Rattle.model.specs.Transcript.{openingForm, sitesIn, slotsIn}
@@ -34,11 +32,7 @@ pub record Opens (line : List ℕ) (s slots : ℕ) : Type 0 where
   pub sites : s ≡ sitesIn line
   pub count : slots ≡ slotsIn line
 
--- the number of an opening line that asks for nothing, and of a line that says no call
+-- the number of an opening line that asks for nothing
 abbrev pub numberIn : Opening → ℕ
 numberIn (Asks s slots) = 0
 numberIn (Refused n) = n
-
-abbrev pub refusalIn : Read → ℕ
-refusalIn (Said call) = 0
-refusalIn (Read.Refused n) = n

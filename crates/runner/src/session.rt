@@ -24,10 +24,10 @@ ghost use lib.ListN.{length};
 ghost use Rattle.model.specs.Tables.{lent};
 ghost use Rattle.model.specs.Flat.{flat};
 ghost use Rattle.model.specs.Calls.{openDesk, step as stepOf};
-ghost use Rattle.model.specs.Lines.{linesOf};
+ghost use Rattle.model.specs.Lines.{refusalIn, linesOf};
 ghost use Rattle.model.specs.Transcript.{openingForm, ownersIn, fresh, answers, begun, session as sessionOf};
 ghost use Rattle.runner.specs.Run.{written, writtenAt, room};
-ghost use Rattle.runner.specs.Opened.{pointersIn, Opens, refusalIn};
+ghost use Rattle.runner.specs.Opened.{pointersIn, Opens};
 
 // One call on the desk.
 fn step(

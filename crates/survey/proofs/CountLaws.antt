@@ -1,15 +1,15 @@
 -- Counts of messages: one more slot, and how much they can be.
 use Prim.Native.Nat.{ℕ, zero, suc, _+_, _≤_}
 use mathlib.Core.Path.{_≡_}
-use mathlib.Core.Bool.{Bool, true, false, _&&_}
+use mathlib.Core.Bool.{_&&_}
 use native.Mathlib.Omega.{arith}
 use lib.Dec.{eqb}
 use Rattle.model.specs.declared.Posted.{Posted}
 use Rattle.model.specs.declared.Posted.the-variants.{Copy, Dec, IncDec, Nothing}
-use Rattle.model.specs.Refusals.{_when_}
 use Rattle.model.specs.Questions.{total}
 use Rattle.model.specs.Messages.{isIncDec}
 use Rattle.model.specs.Survey.{copies, decs, incDecs}
+use Rattle.model.proofs.TestLaws.{at-most-1}
 use Rattle.model.proofs.QuestionLaws.{total-more, total-most}
 use Rattle.survey.specs.FirstSlots.{weighed}
 
@@ -25,10 +25,6 @@ both-at-most : (f g : ℕ → ℕ) (n : ℕ) → ((i : ℕ) → f i + g i ≤ 1)
 unfolding total
 both-at-most f g zero h = omega arith
 both-at-most f g (suc n) h = omega (arith, both-at-most f g n h, h n)
-
-pub at-most-1 : (test : Bool) → (1 when test) ≤ 1
-at-most-1 true = omega arith
-at-most-1 false = omega arith
 
 -- a message is not both a DEC and a COPY
 plus-at-most-1 : (site owner p : ℕ) (m : Posted) → decs site owner p m + copies owner site p m ≤ 1

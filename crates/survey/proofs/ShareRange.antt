@@ -12,7 +12,8 @@ use Rattle.model.specs.Survey.{shareNumber, sharePlus, shareMinus, share}
 use Rattle.model.specs.Flat.{flat}
 use Rattle.model.specs.Tables.{Desk}
 use Rattle.model.proofs.FlatLaws.{flat-laws}
-use Rattle.survey.proofs.NumberLaws.{Named, share-named}
+use Rattle.model.proofs.FrontLaws.{Named}
+use Rattle.survey.proofs.NumberLaws.{share-named}
 use Rattle.survey.proofs.CountLaws.{plus-at-most, minus-at-most}
 use Rattle.survey.proofs.SignedLaws.{balance-between}
 

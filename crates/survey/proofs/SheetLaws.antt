@@ -16,10 +16,10 @@ use Rattle.model.specs.Layout.{Layout}
 use Rattle.model.specs.Calls.{lentRefusal}
 use Rattle.model.specs.Laws.{Inside, Laws}
 use Rattle.model.specs.Survey.{column, entered, blankSheet}
-use Rattle.model.proofs.TestLaws.{and-false}
+use Rattle.model.proofs.TestLaws.{and-false, at-most-1}
 use Rattle.model.proofs.QuestionLaws.{total-more, total-most}
 use Rattle.survey.specs.FirstSlots.{weighed, amount, entries}
-use Rattle.survey.proofs.CountLaws.{at-most-1, counted-more}
+use Rattle.survey.proofs.CountLaws.{counted-more}
 use Rattle.survey.proofs.GridLaws.{grid-at, grid-raised}
 
 -- ---- one message is entered at its own place alone

@@ -2,7 +2,7 @@
 use mathlib.Core.Path.{sym, _∙_}
 use borrow.Author.Needs.{needs}
 use Rattle.book.specs.Book.{addressNumber}
-use Rattle.book.proofs.OrderLaws.{number-first}
+use Rattle.model.proofs.TestLaws.{number-first}
 use Rattle.book.proofs.RefusalLaws.{address-beyond, address-given}
 use Rattle.book.proofs.address_number.Statement.{statement}
 use Rattle.book.proofs.address_number.Tie as tie

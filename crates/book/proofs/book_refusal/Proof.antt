@@ -2,7 +2,7 @@
 use mathlib.Core.Path.{sym, _∙_}
 use borrow.Author.Needs.{needs}
 use Rattle.book.specs.Book.{bookRefusal}
-use Rattle.book.proofs.OrderLaws.{number-first}
+use Rattle.model.proofs.TestLaws.{number-first}
 use Rattle.book.proofs.RefusalLaws.{book-bad, book-good}
 use Rattle.book.proofs.book_refusal.Statement.{statement}
 use Rattle.book.proofs.book_refusal.Tie as tie

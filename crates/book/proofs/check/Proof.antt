@@ -3,7 +3,7 @@ use mathlib.Core.Path.{refl, sym, _∙_}
 use native.Mathlib.Omega.{arith}
 use borrow.Author.Needs.{needs}
 use Rattle.book.specs.Book.{checkNumber, checkAnswer}
-use Rattle.book.proofs.OrderLaws.{number-first}
+use Rattle.model.proofs.TestLaws.{number-first}
 use Rattle.book.proofs.AnswerLaws.{refused-answer, accepted-answer}
 use Rattle.book.proofs.RefusalLaws.{book-passes, check-twins, check-passed}
 use Rattle.book.proofs.check.Statement.{statement}

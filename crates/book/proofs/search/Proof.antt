@@ -11,7 +11,7 @@ use Rattle.book.specs.Book.{has, bookRefusal, searchNumber, searchAnswer
 use Rattle.book.specs.Walk.{walked, meets}
 use Rattle.book.proofs.EntryLaws.{walked-rest}
 use Rattle.book.proofs.FindLaws.{lowest-meets}
-use Rattle.book.proofs.OrderLaws.{number-first}
+use Rattle.model.proofs.TestLaws.{number-first}
 use Rattle.book.proofs.OwnerLaws.{owners-few}
 use Rattle.book.proofs.AnswerLaws.{refused-answer, accepted-answer}
 use Rattle.book.proofs.RefusalLaws.{book-passes, book-bad, book-good, search-beyond, search-nowhere, search-found}

@@ -7,7 +7,7 @@ use borrow.Author.Tests.{ltb-true, eq-eqb, ne-eqb}
 use Rattle.model.specs.Tables.{Desk, lent, slotsOf}
 use Rattle.model.specs.Flat.{flat}
 use Rattle.model.proofs.TestLaws.{or-else-first}
-use Rattle.calls.proofs.FrontLaws.{front-passed}
+use Rattle.model.proofs.FrontLaws.{front-passed}
 use Rattle.calls.proofs.front.slot_refusal.Statement.{statement}
 use Rattle.calls.proofs.front.slot_refusal.Tie as tie
 

@@ -1,6 +1,6 @@
--- `answer_bytes` meets its promise: a posted message at a time.
+-- `answer_bytes` meets its promise: number, value, and the slot bytes of the message.
 use borrow.Author.Needs.{needs}
-use Rattle.lines.proofs.StoreLaws.{bytes-by-posted}
+use Rattle.lines.proofs.StoreLaws.{bytes-by-slot}
 use Rattle.lines.proofs.write.answer_bytes.Statement.{statement}
 use Rattle.lines.proofs.write.answer_bytes.Tie as tie
 
@@ -10,29 +10,26 @@ cast-high c = search needs
 cast-low : tie.Need-cast-low
 cast-low c = search needs
 
-enum-known-posted : tie.Need-enum-known-posted
-enum-known-posted c = search needs
+slot-bytes-requires : tie.Need-slot-bytes-requires
+slot-bytes-requires c κs = search needs
 
-enum-known-posted-2 : tie.Need-enum-known-posted-2
-enum-known-posted-2 c = search needs
+array-read-kind : tie.Need-array-read-kind
+array-read-kind c = search needs
 
-enum-known-posted-3 : tie.Need-enum-known-posted-3
-enum-known-posted-3 c = search needs
+array-read-from : tie.Need-array-read-from
+array-read-from c = search needs
 
-enum-told : tie.Need-enum-told
-enum-told c = search needs
+array-read-to : tie.Need-array-read-to
+array-read-to c = search needs
+
+array-read-third : tie.Need-array-read-third
+array-read-third c = search needs
+
+array-read-pointer : tie.Need-array-read-pointer
+array-read-pointer c = search needs
 
 returns : tie.Need-returns
-returns c = bytes-by-posted _ _ (c .before .posted .given .1)
-
-returns-2 : tie.Need-returns-2
-returns-2 c = bytes-by-posted _ _ (c .before .posted2 .given .1)
-
-returns-3 : tie.Need-returns-3
-returns-3 c = bytes-by-posted _ _ (c .before .posted3 .given .1)
-
-returns-4 : tie.Need-returns-4
-returns-4 c = bytes-by-posted _ _ (c .enum-told .given .1)
+returns c = bytes-by-slot (c .before .before .before .args .answer) (c .slot-bytes .ensures)
 
 pub answer-bytes-spec : {M : Type 1} → statement M
 answer-bytes-spec =
@@ -40,11 +37,10 @@ answer-bytes-spec =
     (tie.spec
     cast-high
     cast-low
-    enum-known-posted
-    enum-known-posted-2
-    enum-known-posted-3
-    enum-told
-    returns
-    returns-2
-    returns-3
-    returns-4)
+    slot-bytes-requires
+    array-read-kind
+    array-read-from
+    array-read-to
+    array-read-third
+    array-read-pointer
+    returns)

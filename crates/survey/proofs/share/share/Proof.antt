@@ -12,7 +12,8 @@ use Rattle.model.specs.Flat.{flat}
 use Rattle.model.proofs.PlaceLaws.{place-inside}
 use Rattle.model.proofs.ShapeLaws.{shaped-desk}
 use Rattle.model.proofs.FlatLaws.{flat-laws}
-use Rattle.survey.proofs.NumberLaws.{Named, share-named}
+use Rattle.model.proofs.FrontLaws.{Named}
+use Rattle.survey.proofs.NumberLaws.{share-named}
 use Rattle.survey.proofs.AnswerLaws.{refused-share, accepted-share}
 use Rattle.survey.proofs.ShareRange.{share-plus-at-most, share-minus-at-most}
 use Rattle.survey.proofs.share.share.Statement.{statement}

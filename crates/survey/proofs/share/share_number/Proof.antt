@@ -10,7 +10,7 @@ use Rattle.model.specs.Survey.{shareNumber}
 use Rattle.model.specs.Tables.{Desk, lent}
 use Rattle.model.specs.Flat.{flat}
 use Rattle.model.proofs.TestLaws.{or-else-first}
-use Rattle.survey.proofs.NumberLaws.{both-named}
+use Rattle.model.proofs.FrontLaws.{both-named}
 use Rattle.survey.proofs.share.share_number.Statement.{statement}
 use Rattle.survey.proofs.share.share_number.Tie as tie
 

@@ -2,8 +2,8 @@
 use mathlib.Core.Path.{ap, sym}
 use Rattle.model.specs.Messages.{slotOf}
 use borrow.Author.Needs.{needs}
-use Rattle.pointer_desk.proofs.answer.slot_bytes.Statement.{statement}
-use Rattle.pointer_desk.proofs.answer.slot_bytes.Tie as tie
+use Rattle.rules.proofs.message.slot_bytes.Statement.{statement}
+use Rattle.rules.proofs.message.slot_bytes.Tie as tie
 
 enum-known-m : tie.Need-enum-known-m
 enum-known-m c = search needs
@@ -27,7 +27,7 @@ returns-3 : tie.Need-returns-3
 returns-3 c = sym (ap slotOf (c .before .m3 .given .1))
 
 returns-4 : tie.Need-returns-4
-returns-4 c = search needs
+returns-4 c = sym (ap slotOf (c .enum-told .given .1))
 
 pub slot-bytes-spec : {M : Type 1} → statement M
 slot-bytes-spec =

@@ -1,0 +1,52 @@
+-- Where an accepted call puts what it posts: make copy and delete in the lowest empty slot, receive in the handled one.
+use Prim.Native.Nat.{ℕ}
+use mathlib.Core.Path.{_≡_, refl, sym, ap, _∙_, subst}
+use Rattle.model.specs.declared.Posted.the-variants.{Copy, Dec as Decr}
+use Rattle.model.specs.declared.Answer.{Answer}
+use Rattle.model.specs.declared.Call.the-variants.{MakeCopy, Receive, Delete}
+use Rattle.model.specs.Layout.{Layout}
+use Rattle.model.specs.Calls.{lowestEmpty, copyNumber, copied, makeCopy, replied, receiveNumber, received, receive, deleteNumber, deleted, delete, step}
+use Rattle.model.specs.Laws.{Laws}
+use Rattle.model.specs.Demands.{LowestEmpty}
+use Rattle.model.proofs.PlaceLaws.{changed-slot}
+use Rattle.model.proofs.Accepted.{copy-accepted, delete-accepted, receive-accepted}
+use Rattle.model.proofs.ReadsLaws.{copied-reads, deleted-reads, received-reads}
+use Rattle.model.proofs.Exactly.{number-of-unless}
+use Rattle.model.proofs.Demand2.{accepted-as, copy-answer, delete-answer}
+
+module _ {D : Type 0} (L : Layout D) (W : Laws L) where
+  open Layout L using (sites, pointers, owner, counter, slots, message, setCounter, setCell, post)
+
+  -- The slot that an accepted make copy or delete names is the lowest empty one.
+  pub copy-takes-lowest : (d : D) (from to p : ℕ) → step L d (MakeCopy from to p) .answer .number ≡ 0 → LowestEmpty L d (step L d (MakeCopy from to p) .answer .value)
+  unfolding step makeCopy copied
+  copy-takes-lowest d from to p e =
+      let z : copyNumber L d from to p ≡ 0 = sym (number-of-unless (copyNumber L d from to p) d (copied L d from to p) refl) ∙ e in
+      subst (LowestEmpty L d) (sym (ap (λ (a : Answer). a .value) (copy-answer L d from to p e))) (copy-accepted L W d from to p z .room .lowest-empty)
+
+  pub delete-takes-lowest : (d : D) (site p : ℕ) → step L d (Delete site p) .answer .number ≡ 0 → LowestEmpty L d (step L d (Delete site p) .answer .value)
+  unfolding step delete deleted
+  delete-takes-lowest d site p e =
+      let z : deleteNumber L d site p ≡ 0 = sym (number-of-unless (deleteNumber L d site p) d (deleted L d site p) refl) ∙ e in
+      subst (LowestEmpty L d) (sym (ap (λ (a : Answer). a .value) (delete-answer L d site p e))) (delete-accepted L W d site p z .room .lowest-empty)
+
+  -- What an accepted call posts stands in that slot: the COPY, the DEC, the reply.
+  pub copy-posts : (d : D) (from to p : ℕ) → step L d (MakeCopy from to p) .answer .number ≡ 0
+      → message (step L d (MakeCopy from to p) .desk) (lowestEmpty L d) ≡ Copy from to p
+  unfolding step makeCopy
+  copy-posts d from to p = accepted-as (λ e. message e (lowestEmpty L d) ≡ Copy from to p) (copyNumber L d from to p) d (copied L d from to p) (λ z.
+      let c = copy-accepted L W d from to p z in
+      copied-reads L W d from to p c .as-messages (lowestEmpty L d) (c .room .in-pool) ∙ changed-slot (message d) (lowestEmpty L d) (Copy from to p))
+
+  pub delete-posts : (d : D) (site p : ℕ) → step L d (Delete site p) .answer .number ≡ 0
+      → message (step L d (Delete site p) .desk) (lowestEmpty L d) ≡ Decr site (owner d p) p
+  unfolding step delete
+  delete-posts d site p = accepted-as (λ e. message e (lowestEmpty L d) ≡ Decr site (owner d p) p) (deleteNumber L d site p) d (deleted L d site p) (λ z.
+      let c = delete-accepted L W d site p z in
+      deleted-reads L W d site p c .as-messages (lowestEmpty L d) (c .room .in-pool) ∙ changed-slot (message d) (lowestEmpty L d) (Decr site (owner d p) p))
+
+  pub receive-posts : (d : D) (slot : ℕ) → step L d (Receive slot) .answer .number ≡ 0 → message (step L d (Receive slot) .desk) slot ≡ replied L d slot
+  unfolding step receive
+  receive-posts d slot = accepted-as (λ e. message e slot ≡ replied L d slot) (receiveNumber L d slot) d (received L d slot) (λ z.
+      let c = receive-accepted L W d slot z in
+      received-reads L W d slot c .as-messages slot (c .in-pool) ∙ changed-slot (message d) slot (replied L d slot))
