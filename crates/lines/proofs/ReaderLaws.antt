@@ -3,7 +3,7 @@ use Prim.Native.Nat.{ℕ, zero, suc}
 use mathlib.Core.Path.{_≡_, refl, ap}
 use mathlib.Core.List.{List}
 use denote.Ref.{RefT, now}
-use Rattle.lines.specs.Places.{placeAfter}
+use Rattle.model.specs.Places.{placeAfter}
 use Rattle.lines.specs.Reading.{movedOn, readerAfter}
 
 pub reader-after : (text : RefT (List ℕ)) (n : ℕ) → readerAfter text n ≡ record { text = text; at = placeAfter (now text) n }

@@ -17,7 +17,7 @@ use Rattle.model.specs.Answers.{refused}
 use Rattle.model.specs.Lines.{newline, digitsOf, lineOf, writeCall}
 use Rattle.model.specs.Transcript.{answerBytes, answerLine}
 use Rattle.model.proofs.SlotLaws.{five-bytes}
-use Rattle.lines.proofs.DigitLaws.{length-digits}
+use Rattle.model.proofs.DigitLaws.{length-digits}
 
 -- a store after a store is one store
 pub sets-then : (a l b : List ℕ) (i j : ℕ) → j ≡ i + length a → sets (sets l i a) j b ≡ sets l i (a ++ b)

@@ -5,7 +5,7 @@ use denote.Ref.{RefT, now}
 use Rattle.model.specs.declared.Next.{Next}
 use Rattle.model.specs.Lines.{nextAt}
 use Rattle.lines.specs.declared.reader.Reader.{Reader}
-use Rattle.lines.specs.Places.{movedTo}
+use Rattle.model.specs.Places.{movedTo}
 
 -- at the start of a text
 abbrev pub started : RefT (List ℕ) → Reader

@@ -7,7 +7,7 @@ ghost use Prim.Native.Nat.{_+_};
 ghost use lib.Dec.{ltb};
 ghost use lib.ListN.{length};
 ghost use Rattle.model.specs.Lines.{endAt, nextAt};
-ghost use Rattle.lines.specs.Places.{movedTo, placeAfter};
+ghost use Rattle.model.specs.Places.{movedTo, placeAfter};
 ghost use Rattle.lines.specs.Reading.{started, answerOf, movedOn};
 
 // Where the line that starts at a place ends.

@@ -9,12 +9,13 @@ use lib.Dec.{eqb}
 use lib.ListN.{length, getD, set, replicate, length-set, length-replicate}
 use lib.Seq.{length-sets, getD-set-same, getD-set-other}
 use borrow.Author.Tests.{lt-ltb}
+use Rattle.moreau.specs.Transformers.{assign}
 use Rattle.model.specs.declared.Posted.{Posted}
 use Rattle.model.specs.declared.Posted.the-variants.{Nothing}
 use Rattle.model.specs.Refusals.{_when_}
 use Rattle.model.specs.Messages.{slotOf, messageOf}
 use Rattle.model.specs.Calls.{lentRefusal}
-use Rattle.model.specs.Laws.{withCell, withSlot, Inside, Reads, Laws}
+use Rattle.model.specs.Laws.{withSlot, Inside, Reads, Laws}
 use Rattle.model.specs.Tables.{Desk, byteBelow, allBelow, atSlot, slotGood, slotsOf, allSlotsGood}
 use Rattle.model.specs.Flat.{flat, place}
 use Rattle.model.proofs.QuestionLaws.{every-at, every-all}
@@ -72,7 +73,7 @@ module _ (d : Desk) where
     in-table : (s p : ℕ) → s < d .S → p < length (d .owners) → (l : List ℕ) → length l ≡ d .S * length (d .owners) → place (length (d .owners)) s p < length l
     in-table s p ls lp l q = rw q (place-inside (d .S) (length (d .owners)) s p ls lp)
 
-    sets-counter : (s p n : ℕ) → s < d .S → p < length (d .owners) → Reads flat d (flat .setCounter d s p n) (withCell (flat .counter d) s p n) (flat .cell d) (flat .message d)
+    sets-counter : (s p n : ℕ) → s < d .S → p < length (d .owners) → Reads flat d (flat .setCounter d s p n) (assign (flat .counter d) s p n) (flat .cell d) (flat .message d)
     unfolding lentRefusal
     sets-counter s p n ls lp = record {
       good = rw (length-set (d .send) (place (length (d .owners)) s p) n) e;
@@ -82,7 +83,7 @@ module _ (d : Desk) where
       as-messages = λ i li. refl;
     }
 
-    sets-cell : (s p n : ℕ) → s < d .S → p < length (d .owners) → n ≤ 1 → Reads flat d (flat .setCell d s p n) (flat .counter d) (withCell (flat .cell d) s p n) (flat .message d)
+    sets-cell : (s p n : ℕ) → s < d .S → p < length (d .owners) → n ≤ 1 → Reads flat d (flat .setCell d s p n) (flat .counter d) (assign (flat .cell d) s p n) (flat .message d)
     sets-cell s p n ls lp ln =
         let g = good d e in
         record {

@@ -29,6 +29,11 @@ pub mod Demand3
 pub mod ShareLaws
 pub mod Shares
 pub mod Lemma4
+pub mod DigitLaws
+pub mod CallLaws
+pub mod LineLaws
+pub mod RoundTrip
+pub mod EachLineOnce
 pub mod TheDesk
 pub mod Fourteen
 pub mod Edges

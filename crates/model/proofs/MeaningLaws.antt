@@ -14,9 +14,8 @@ use Rattle.model.specs.declared.Posted.the-variants.{Copy, Dec as Decr, 
 use Rattle.model.specs.Refusals.{_when_}
 use Rattle.model.specs.Questions.{total}
 use Rattle.model.specs.Layout.{Layout}
-use Rattle.model.specs.Laws.{Frame, withCell, withSlot, Reads, Laws}
+use Rattle.model.specs.Laws.{Frame, withSlot, Reads, Laws}
 use Rattle.model.specs.Meaning.{meant, within, configOf, meaning}
-use Rattle.model.proofs.PlaceLaws.{changed-cell, cell-of-other-site, cell-of-other-pointer}
 use Rattle.model.proofs.PoolLaws.{total-same, total-of-zeros, term-in-total, total-with-slot}
 
 -- ---- tables
@@ -40,18 +39,18 @@ unfolding within
 within-at S G f g outside s p e = rw e
 
 within-changed : {A : Type 0} (read : ℕ → A) (S G : ℕ) (table : ℕ → ℕ → ℕ) (outside : ℕ → ℕ → A) (s p n : ℕ) → s < S → p < G
-    → within S G (λ t q. read (withCell table s p n t q)) outside ≡ assign (within S G (λ t q. read (table t q)) outside) s p (read n)
+    → within S G (λ t q. read (assign table s p n t q)) outside ≡ assign (within S G (λ t q. read (table t q)) outside) s p (read n)
 within-changed {A} read S G table outside s p n ls lp = fun-ext (λ t. fun-ext (λ q. go t q (ℕ-discrete s t) (ℕ-discrete p q)))
   where
     go : (t q : ℕ) → Dec (s ≡ t) → Dec (p ≡ q)
-        → within S G (λ t q. read (withCell table s p n t q)) outside t q ≡ assign (within S G (λ t q. read (table t q)) outside) s p (read n) t q
+        → within S G (λ t q. read (assign table s p n t q)) outside t q ≡ assign (within S G (λ t q. read (table t q)) outside) s p (read n) t q
     go t q (yes e) (yes f) =
         rw (← e, ← f)
-        (within-inside S G (λ t q. read (withCell table s p n t q)) outside s p ls lp ∙ ap read (changed-cell table s p n) ∙ sym (assign-here (within S G (λ t q. read (table t q)) outside) s p (read n)))
+        (within-inside S G (λ t q. read (assign table s p n t q)) outside s p ls lp ∙ ap read (assign-here table s p n) ∙ sym (assign-here (within S G (λ t q. read (table t q)) outside) s p (read n)))
     go t q (yes e) (no apart) =
-        within-at S G (λ t q. read (withCell table s p n t q)) (λ t q. read (table t q)) outside t q (ap read (cell-of-other-pointer table s p n t q (λ z. apart (sym z)))) ∙ sym (assign-pointer (within S G (λ t q. read (table t q)) outside) s p (read n) t q apart)
+        within-at S G (λ t q. read (assign table s p n t q)) (λ t q. read (table t q)) outside t q (ap read (assign-pointer table s p n t q apart)) ∙ sym (assign-pointer (within S G (λ t q. read (table t q)) outside) s p (read n) t q apart)
     go t q (no apart) b =
-        within-at S G (λ t q. read (withCell table s p n t q)) (λ t q. read (table t q)) outside t q (ap read (cell-of-other-site table s p n t q (λ z. apart (sym z)))) ∙ sym (assign-site (within S G (λ t q. read (table t q)) outside) s p (read n) t q apart)
+        within-at S G (λ t q. read (assign table s p n t q)) (λ t q. read (table t q)) outside t q (ap read (assign-site table s p n t q apart)) ∙ sym (assign-site (within S G (λ t q. read (table t q)) outside) s p (read n) t q apart)
 
 eqb-swapped : (a b : ℕ) → eqb a b ≡ eqb b a
 eqb-swapped a b = go (ℕ-discrete a b)
@@ -140,7 +139,7 @@ module _ {D : Type 0} (L : Layout D) where
 
   -- ---- a counter, a cell, a slot changed in what is read
   module _ (d : D) (counters cells : ℕ → ℕ → ℕ) (messages : ℕ → Posted) where
-    counters-mean : (s p n : ℕ) → s < sites d → p < pointers d → readAs d (withCell counters s p n) cells messages ≡ (send-T (s, p) ≔ n) (readAs d counters cells messages)
+    counters-mean : (s p n : ℕ) → s < sites d → p < pointers d → readAs d (assign counters s p n) cells messages ≡ (send-T (s, p) ≔ n) (readAs d counters cells messages)
     unfolding configOf
     counters-mean s p n ls lp w = record {
       sites = sites d;
@@ -151,7 +150,7 @@ module _ {D : Type 0} (L : Layout D) where
       pool = readAs d counters cells messages .pool;
     }
 
-    cells-mean : (s p n : ℕ) → s < sites d → p < pointers d → readAs d counters (withCell cells s p n) messages ≡ (rec-T (s, p) ≔ eqb n 1) (readAs d counters cells messages)
+    cells-mean : (s p n : ℕ) → s < sites d → p < pointers d → readAs d counters (assign cells s p n) messages ≡ (rec-T (s, p) ≔ eqb n 1) (readAs d counters cells messages)
     unfolding configOf
     cells-mean s p n ls lp w = record {
       sites = sites d;
@@ -176,25 +175,25 @@ module _ {D : Type 0} (L : Layout D) where
 
   -- ---- memory that reads as before but for one counter and one slot, one cell and one slot, or all three
   module _ (d e : D) (s p : ℕ) (ls : s < sites d) (lp : p < pointers d) (i : ℕ) (li : i < slots d) (m : Posted) where
-    pub counter-and-slot-mean : (n : ℕ) → Reads L d e (withCell (counter d) s p n) (cell d) (withSlot (message d) i m)
+    pub counter-and-slot-mean : (n : ℕ) → Reads L d e (assign (counter d) s p n) (cell d) (withSlot (message d) i m)
         → meaning L e ≡ posted m (taken (message d i) ((send-T (s, p) ≔ n) (meaning L d)))
     counter-and-slot-mean n r =
         reads-mean d e r
-        ∙ slots-mean d (withCell (counter d) s p n) (cell d) (message d) i m li
+        ∙ slots-mean d (assign (counter d) s p n) (cell d) (message d) i m li
         ∙ ap (λ (C : Config). posted m (taken (message d i) C)) (counters-mean d (counter d) (cell d) (message d) s p n ls lp)
 
-    pub cell-and-slot-mean : (c : ℕ) → Reads L d e (counter d) (withCell (cell d) s p c) (withSlot (message d) i m)
+    pub cell-and-slot-mean : (c : ℕ) → Reads L d e (counter d) (assign (cell d) s p c) (withSlot (message d) i m)
         → meaning L e ≡ posted m (taken (message d i) ((rec-T (s, p) ≔ eqb c 1) (meaning L d)))
     cell-and-slot-mean c r =
         reads-mean d e r
-        ∙ slots-mean d (counter d) (withCell (cell d) s p c) (message d) i m li
+        ∙ slots-mean d (counter d) (assign (cell d) s p c) (message d) i m li
         ∙ ap (λ (C : Config). posted m (taken (message d i) C)) (cells-mean d (counter d) (cell d) (message d) s p c ls lp)
 
-    pub all-three-mean : (n c : ℕ) → Reads L d e (withCell (counter d) s p n) (withCell (cell d) s p c) (withSlot (message d) i m)
+    pub all-three-mean : (n c : ℕ) → Reads L d e (assign (counter d) s p n) (assign (cell d) s p c) (withSlot (message d) i m)
         → meaning L e ≡ posted m (taken (message d i) ((rec-T (s, p) ≔ eqb c 1) ((send-T (s, p) ≔ n) (meaning L d))))
     all-three-mean n c r =
         reads-mean d e r
-        ∙ slots-mean d (withCell (counter d) s p n) (withCell (cell d) s p c) (message d) i m li
+        ∙ slots-mean d (assign (counter d) s p n) (assign (cell d) s p c) (message d) i m li
         ∙ ap (λ (C : Config). posted m (taken (message d i) C))
-        (cells-mean d (withCell (counter d) s p n) (cell d) (message d) s p c ls lp
+        (cells-mean d (assign (counter d) s p n) (cell d) (message d) s p c ls lp
         ∙ ap (rec-T (s, p) ≔ eqb c 1) (counters-mean d (counter d) (cell d) (message d) s p n ls lp))

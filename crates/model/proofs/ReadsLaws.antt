@@ -2,19 +2,20 @@
 use Prim.Native.Nat.{ℕ, _+_, _≤_, _<_}
 use mathlib.Core.Path.{_≡_, refl, _∙_}
 use native.Mathlib.Omega.{arith}
+use Rattle.moreau.specs.Transformers.{assign}
 use Rattle.model.specs.declared.Posted.{Posted}
 use Rattle.model.specs.declared.Posted.the-variants.{Copy, Dec as Decr}
 use Rattle.model.specs.Messages.{receiver, pointerOf, counterAfter, cellAfter}
 use Rattle.model.specs.Layout.{Layout}
 use Rattle.model.specs.Calls.{lentRefusal, lowestEmpty, copied, received, deleted, counterThere, cellThere, replied}
-use Rattle.model.specs.Laws.{withCell, withSlot, Inside, Reads, Laws}
+use Rattle.model.specs.Laws.{withSlot, Inside, Reads, Laws}
 use Rattle.model.proofs.KeptLaws.{Kept, kept-by, kept-sites, kept-pointers, kept-slots, kept-inside}
 use Rattle.model.proofs.Accepted.{Copied, Deleted, Received}
 use Rattle.model.proofs.ReplyLaws.{inside-there, bit-after, reply-inside}
 
 -- a changed cell or slot of tables that agree there
-cell-at : (f g : ℕ → ℕ → ℕ) (s p n t q : ℕ) → f t q ≡ g t q → withCell f s p n t q ≡ withCell g s p n t q
-unfolding withCell
+cell-at : (f g : ℕ → ℕ → ℕ) (s p n t q : ℕ) → f t q ≡ g t q → assign f s p n t q ≡ assign g s p n t q
+unfolding assign
 cell-at f g s p n t q e = rw e
 
 slot-at : (f g : ℕ → Posted) (i : ℕ) (m : Posted) (j : ℕ) → f j ≡ g j → withSlot f i m j ≡ withSlot g i m j
@@ -32,7 +33,7 @@ module _ {D : Type 0} (L : Layout D) (W : Laws L) where
     k : Kept L d e
     k = kept-by L r
 
-    pub then-counter : (s p n : ℕ) → s < sites d → p < pointers d → Reads L d (setCounter e s p n) (withCell counters s p n) cells messages
+    pub then-counter : (s p n : ℕ) → s < sites d → p < pointers d → Reads L d (setCounter e s p n) (assign counters s p n) cells messages
     then-counter s p n ls lp =
         let w = W .sets-counter e s p n (r .good) (kept-sites L k ls) (kept-pointers L k lp) in
         record {
@@ -43,7 +44,7 @@ module _ {D : Type 0} (L : Layout D) (W : Laws L) where
           as-messages = λ j lj. w .as-messages j (kept-slots L k lj) ∙ r .as-messages j lj;
         }
 
-    pub then-cell : (s p n : ℕ) → s < sites d → p < pointers d → n ≤ 1 → Reads L d (setCell e s p n) counters (withCell cells s p n) messages
+    pub then-cell : (s p n : ℕ) → s < sites d → p < pointers d → n ≤ 1 → Reads L d (setCell e s p n) counters (assign cells s p n) messages
     then-cell s p n ls lp bit =
         let w = W .sets-cell e s p n (r .good) (kept-sites L k ls) (kept-pointers L k lp) bit in
         record {
@@ -67,7 +68,7 @@ module _ {D : Type 0} (L : Layout D) (W : Laws L) where
 
   -- After an accepted make copy: the sender's counter is raised, and the lowest empty slot holds the COPY.
   pub copied-reads : (d : D) (from to p : ℕ) → Copied L W d from to p
-      → Reads L d (copied L d from to p .desk) (withCell (counter d) from p (counter d from p + 1)) (cell d) (withSlot (message d) (lowestEmpty L d) (Copy from to p))
+      → Reads L d (copied L d from to p .desk) (assign (counter d) from p (counter d from p + 1)) (cell d) (withSlot (message d) (lowestEmpty L d) (Copy from to p))
   unfolding copied
   copied-reads d from to p c =
       then-post (then-counter (reads-self d (c .good)) from p (counter d from p + 1) (c .from-site) (c .a-pointer))
@@ -75,7 +76,7 @@ module _ {D : Type 0} (L : Layout D) (W : Laws L) where
 
   -- After an accepted delete: the site's cell is 0, and the lowest empty slot holds the DEC.
   pub deleted-reads : (d : D) (site p : ℕ) → Deleted L W d site p
-      → Reads L d (deleted L d site p .desk) (counter d) (withCell (cell d) site p 0) (withSlot (message d) (lowestEmpty L d) (Decr site (owner d p) p))
+      → Reads L d (deleted L d site p .desk) (counter d) (assign (cell d) site p 0) (withSlot (message d) (lowestEmpty L d) (Decr site (owner d p) p))
   unfolding deleted
   deleted-reads d site p c =
       then-post (then-cell (reads-self d (c .good)) site p 0 (c .a-site) (c .a-pointer) (omega arith))
@@ -84,8 +85,8 @@ module _ {D : Type 0} (L : Layout D) (W : Laws L) where
   -- After an accepted receive: the receiver's counter and cell are as the message says, and the slot holds the reply.
   pub received-reads : (d : D) (slot : ℕ) → Received L W d slot → let x = message d slot in
       Reads L d (received L d slot .desk)
-      (withCell (counter d) (receiver x) (pointerOf x) (counterAfter x (counterThere L d slot)))
-      (withCell (cell d) (receiver x) (pointerOf x) (cellAfter x (cellThere L d slot)))
+      (assign (counter d) (receiver x) (pointerOf x) (counterAfter x (counterThere L d slot)))
+      (assign (cell d) (receiver x) (pointerOf x) (cellAfter x (cellThere L d slot)))
       (withSlot (message d) slot (replied L d slot))
   unfolding received
   received-reads d slot c =

@@ -1,9 +1,9 @@
 -- The three demands for the desk of document 01: the theorems over any lawful layout, at `flat`.
-use Prim.Native.Nat.{ℕ, _-_, _<_}
+use Prim.Native.Nat.{ℕ, _-_, _≤_, _<_}
 use mathlib.Core.Path.{_≡_, refl}
 use mathlib.Core.Logic.{_≢_, _↔_}
 use mathlib.Core.Bool.{true}
-use mathlib.Core.List.{[], _∷_}
+use mathlib.Core.List.{List, [], _∷_}
 use lib.Dec.{eqb}
 use lib.IntN.{pos}
 use lib.ListN.{length, getD}
@@ -14,12 +14,16 @@ use Rattle.moreau.proofs.Guards.{paper-guard}
 use Rattle.model.specs.declared.Posted.the-variants.{Copy, Dec as Decr, Nothing}
 use Rattle.model.specs.declared.Call.{Call}
 use Rattle.model.specs.declared.Call.the-variants.{MakeCopy, Receive, Delete, Ask}
+use Rattle.model.specs.declared.Read.the-variants.{Said}
+use Rattle.model.specs.declared.Next.the-variants.{Line}
 use Rattle.model.specs.Refusals.{_when_}
 use Rattle.model.specs.Answers.{accepted, refused}
 use Rattle.model.specs.Calls.{heldRefusal, lowestEmpty, lentRefusal, openDesk, replied, step}
 use Rattle.model.specs.Survey.{inFlight, sharePlus, shareMinus, shareOf, sharesOfOthers, share, sheetNumber}
 use Rattle.model.specs.Tables.{Desk}
 use Rattle.model.specs.Flat.{flat}
+use Rattle.model.specs.Lines.{digitsOf, bytesOf, writeCall, readLine, nextAt}
+use Rattle.model.specs.Fields.{FieldsFit}
 use Rattle.model.specs.Meaning.{meant, meaning}
 use Rattle.model.specs.Demands.{FirstOf, _among_, listed, openRows, heldRows, rowsOf, TellsEarly, shareRows, sheetRows, LowestEmpty, names, controls, MakesCopy, Receives, Deletes, Reached, Quiet}
 use Rattle.model.proofs.FlatLaws.{flat-laws}
@@ -31,6 +35,7 @@ use Rattle.model.proofs.Demand1 as demand-1
 use Rattle.model.proofs.Demand2 as demand-2
 use Rattle.model.proofs.Placed as placed
 use Rattle.model.proofs.Converse as converse
+use Rattle.model.proofs.RoundTrip as round-trip
 use Rattle.model.proofs.Demand3 as demand-3
 use Rattle.model.proofs.Shares as shares
 use Rattle.model.proofs.Lemma4 as lemma-4
@@ -153,6 +158,16 @@ receive-permitted = converse.receive-permitted-held flat flat-laws held
 pub delete-permitted : (d : Desk) (site p slot : ℕ) → lentRefusal flat d ≡ 0 → site < d .S → p < flat .pointers d → MayDelete site p (meaning flat d)
     → slot < flat .slots d → flat .empty d slot ≡ true → step flat d (Delete site p) .answer .number ≡ 0
 delete-permitted = converse.delete-permitted flat flat-laws
+
+-- A call that is written as a line reads back as that call, and the reader stands past it; a line that is read is written back in the same characters.
+pub read-of-written : (call : Call) → FieldsFit call → readLine (digitsOf (bytesOf call)) ≡ Said call
+read-of-written = round-trip.read-of-written
+
+pub next-of-written : (text : List ℕ) (call : Call) → FieldsFit call → 9 ≤ length text → nextAt (writeCall text call .desk) 0 ≡ Line (Said call) 9
+next-of-written = round-trip.next-of-written
+
+pub written-of-read : (line : List ℕ) (call : Call) → readLine line ≡ Said call → digitsOf (bytesOf call) ≡ line
+written-of-read = round-trip.written-of-read
 
 -- ---- demand 3
 -- From an opened desk, after any calls in any order: the owner's counter is 0 if and only if no other site holds the pointer and no message in flight names it.

@@ -1,8 +1,9 @@
 -- What a layout must keep: a written part reads back, and every other part reads as before.
 use Prim.Native.Nat.{ℕ, _≤_, _<_}
 use mathlib.Core.Path.{_≡_}
-use mathlib.Core.Bool.{true, _&&_, cond}
+use mathlib.Core.Bool.{true, cond}
 use lib.Dec.{eqb}
+use Rattle.moreau.specs.Transformers.{assign}
 use Rattle.model.specs.declared.Posted.{Posted}
 use Rattle.model.specs.declared.Posted.the-variants.{Copy, Dec, IncDec, Nothing}
 use Rattle.model.specs.Refusals.{_when_}
@@ -17,10 +18,7 @@ pub record Frame : Type 0 where
   pub slots : ℕ
   pub owner : ℕ → ℕ
 
--- a table with n at site s and pointer p, and a pool with m in slot i
-unfoldable pub withCell : (ℕ → ℕ → ℕ) → ℕ → ℕ → ℕ → ℕ → ℕ → ℕ
-withCell table s p n t q = cond (eqb t s && eqb q p) n (table t q)
-
+-- a pool with m in slot i
 unfoldable pub withSlot : (ℕ → Posted) → ℕ → Posted → ℕ → Posted
 withSlot pool i m j = cond (eqb j i) m (pool j)
 
@@ -57,9 +55,9 @@ module _ {D : Type 0} (L : Layout D) where
     pub clears : (d : D) → shaped d ≡ true → owned d ≡ true
         → Reads d (cleared d) (λ s p. 0) (λ s p. 1 when eqb s (owner d p)) (λ i. Nothing)
     pub sets-counter : (d : D) (s p n : ℕ) → lentRefusal L d ≡ 0 → s < sites d → p < pointers d
-        → Reads d (setCounter d s p n) (withCell (counter d) s p n) (cell d) (message d)
+        → Reads d (setCounter d s p n) (assign (counter d) s p n) (cell d) (message d)
     pub sets-cell : (d : D) (s p n : ℕ) → lentRefusal L d ≡ 0 → s < sites d → p < pointers d → n ≤ 1
-        → Reads d (setCell d s p n) (counter d) (withCell (cell d) s p n) (message d)
+        → Reads d (setCell d s p n) (counter d) (assign (cell d) s p n) (message d)
     pub posts : (d : D) (i : ℕ) (m : Posted) → lentRefusal L d ≡ 0 → i < slots d → Inside (sites d) (pointers d) m
         → Reads d (post d i m) (counter d) (cell d) (withSlot (message d) i m)
     pub handles : (d : D) (i : ℕ) → lentRefusal L d ≡ 0 → i < slots d

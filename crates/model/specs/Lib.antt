@@ -11,4 +11,6 @@ pub mod Flat
 pub mod Meaning
 pub mod Demands
 pub mod Lines
+pub mod Fields
+pub mod Places
 pub mod Transcript

@@ -11,8 +11,8 @@ use Rattle.model.specs.Answers.{refused, Outcome}
 use Rattle.model.specs.Tables.{Desk}
 use Rattle.model.specs.Lines.{linesOf, width, endAt, nextAt}
 use Rattle.model.specs.Transcript.{answerLine, answers, goesOn, begun, opening, session, transcript}
-use Rattle.lines.specs.Places.{movedTo}
-use Rattle.lines.proofs.PlaceLaws.{lines-at, past-later, answer-there}
+use Rattle.model.specs.Places.{movedTo}
+use Rattle.model.proofs.LineLaws.{lines-at, past-later, answer-there}
 use Rattle.lines.proofs.StoreLaws.{length-answer-line}
 use Rattle.runner.specs.Run.{Written, written, writtenAt, room, run}
 use Rattle.runner.proofs.OpeningLaws.{TurnedDown}

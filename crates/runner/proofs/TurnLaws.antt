@@ -15,7 +15,7 @@ use Rattle.model.specs.Tables.{Desk}
 use Rattle.model.specs.Flat.{flat}
 use Rattle.model.specs.Lines.{refusalIn, readLine, linesOf, lineAt, pastAt}
 use Rattle.model.specs.Transcript.{answerLine, obeyed, answers}
-use Rattle.lines.proofs.PlaceLaws.{lines-at, no-lines, past-later}
+use Rattle.model.proofs.LineLaws.{lines-at, no-lines, past-later}
 use Rattle.lines.proofs.StoreLaws.{sets-then, length-answer-line}
 use Rattle.runner.specs.Run.{writtenAt}
 

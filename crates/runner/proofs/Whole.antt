@@ -13,7 +13,7 @@ use Rattle.model.specs.Answers.{refused}
 use Rattle.model.specs.Lines.{linesOf, readLine}
 use Rattle.model.specs.Transcript.{answerLine, obeyed, answers, goesOn, opening, session, transcript}
 use Rattle.lines.proofs.StoreLaws.{length-answer-line}
-use Rattle.lines.proofs.EachLineOnce.{each-line-once}
+use Rattle.model.proofs.EachLineOnce.{each-line-once}
 use Rattle.runner.specs.Run.{Written, written, room, run}
 
 -- ---- the greatest length

@@ -8,8 +8,7 @@ use borrow.Author.Needs.{needs}
 use Rattle.model.specs.Questions.{some}
 use Rattle.model.specs.Messages.{isIncDec}
 use Rattle.model.specs.Tables.{messageAt}
-use Rattle.model.proofs.QuestionLaws.{some-more, some-done}
-use Rattle.model.proofs.QuestionLaws.{some-there}
+use Rattle.model.proofs.QuestionLaws.{some-more, some-done, some-there}
 use Rattle.calls.proofs.held.held.Statement.{statement}
 use Rattle.calls.proofs.held.held.Tie as tie
 

@@ -1,6 +1,6 @@
 -- `byte_of` meets its promise: both numbers are below 16, or not.
 use borrow.Author.Needs.{needs}
-use Rattle.lines.proofs.DigitLaws.{byte-of-both, no-byte}
+use Rattle.model.proofs.DigitLaws.{byte-of-both, no-byte}
 use Rattle.lines.proofs.digit.byte_of.Statement.{statement}
 use Rattle.lines.proofs.digit.byte_of.Tie as tie
 

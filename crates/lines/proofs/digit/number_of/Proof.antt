@@ -2,7 +2,7 @@
 use mathlib.Core.Path.{sym}
 use native.Mathlib.Omega.{arith}
 use borrow.Author.Needs.{needs}
-use Rattle.lines.proofs.DigitLaws.{decimal-number, letter-number, no-number-below, no-number-between, no-number-above}
+use Rattle.model.proofs.DigitLaws.{decimal-number, letter-number, no-number-below, no-number-between, no-number-above}
 use Rattle.lines.proofs.digit.number_of.Statement.{statement}
 use Rattle.lines.proofs.digit.number_of.Tie as tie
 

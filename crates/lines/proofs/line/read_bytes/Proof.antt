@@ -4,7 +4,7 @@ use native.Mathlib.Omega.{arith}
 use borrow.Author.Needs.{needs}
 use Rattle.model.specs.Refusals.{_orElse_}
 use Rattle.model.specs.Lines.{lineRefusal}
-use Rattle.lines.proofs.CallLaws.{all-bytes, order-of-tests, refused-by, said-by}
+use Rattle.model.proofs.CallLaws.{all-bytes, order-of-tests, refused-by, said-by}
 use Rattle.lines.proofs.line.read_bytes.Statement.{statement}
 use Rattle.lines.proofs.line.read_bytes.Tie as tie
 

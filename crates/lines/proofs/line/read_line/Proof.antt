@@ -6,7 +6,7 @@ use denote.Ref.{now}
 use borrow.Author.Needs.{needs}
 use borrow.Author.Tests.{ne-eqb}
 use Rattle.model.specs.Lines.{readBytes, readLine}
-use Rattle.lines.proofs.CallLaws.{each-below, no-bytes, line-by-bytes}
+use Rattle.model.proofs.CallLaws.{each-below, no-bytes, line-by-bytes}
 use Rattle.lines.proofs.line.read_line.Statement.{statement}
 use Rattle.lines.proofs.line.read_line.Tie as tie
 

@@ -36,7 +36,7 @@ use Rattle.model.specs.declared.Next.{Next as Answered}
 use Rattle.model.specs.Lines.{nextAt}
 use Rattle.model.proofs.Next as S
 use Rattle.model.proofs.Next.Laws as S′
-use Rattle.lines.specs.Places.{placeAfter}
+use Rattle.model.specs.Places.{placeAfter}
 use Rattle.lines.specs.Reading.{started, answerOf, movedOn}
 use Rattle.lines.specs.declared.reader.Reader.{Reader}
 use Rattle.lines.proofs.ReaderWalk.{reader-type, text-stays, text-val, text-meets}

@@ -4,7 +4,7 @@ use Prim.Native.Nat.{_-_}
 use native.Mathlib.Omega.{arith}
 use lib.ListN.{length}
 use Rattle.model.specs.Lines.{endAt}
-use Rattle.lines.proofs.PlaceLaws.{end-here, end-on, end-last}
+use Rattle.model.proofs.LineLaws.{end-here, end-on, end-last}
 use Rattle.lines.proofs.reader.line_end.Statement.{statement}
 use Rattle.lines.proofs.reader.line_end.Tie as tie
 

@@ -2,7 +2,7 @@
 use mathlib.Core.Path.{sym}
 use native.Mathlib.Omega.{arith}
 use borrow.Author.Needs.{needs}
-use Rattle.lines.proofs.PlaceLaws.{end-most, line-there, none-there}
+use Rattle.model.proofs.LineLaws.{end-most, line-there, none-there}
 use Rattle.lines.proofs.reader.next_at.Statement.{statement}
 use Rattle.lines.proofs.reader.next_at.Tie as tie
 

@@ -1,8 +1,8 @@
 -- `past_at` meets its promise: it goes where the reader's answer leaves it.
 use mathlib.Core.Path.{refl, sym, ap}
 use borrow.Author.Needs.{needs}
-use Rattle.lines.specs.Places.{movedTo}
-use Rattle.lines.proofs.PlaceLaws.{line-there, none-there}
+use Rattle.model.specs.Places.{movedTo}
+use Rattle.model.proofs.LineLaws.{line-there, none-there}
 use Rattle.lines.proofs.reader.past_at.Statement.{statement}
 use Rattle.lines.proofs.reader.past_at.Tie as tie
 

@@ -7,7 +7,7 @@ use borrow.Author.Needs.{needs}
 use Rattle.model.specs.Tables.{Desk, lent}
 use Rattle.model.specs.Lines.{readLine, linesOf, lineAt, pastAt}
 use Rattle.model.specs.Transcript.{answers}
-use Rattle.lines.proofs.PlaceLaws.{past-later}
+use Rattle.model.proofs.LineLaws.{past-later}
 use Rattle.runner.proofs.NextLaws.{line-said, ended-said}
 use Rattle.runner.proofs.TurnLaws.{Left, all-left, turn, none-left, refused-line, said-line}
 use Rattle.runner.proofs.session.answer_lines.Statement.{statement}

@@ -13,7 +13,7 @@ use Rattle.model.specs.Tables.{Desk}
 use Rattle.model.specs.Flat.{flat}
 use Rattle.model.specs.Lines.{linesOf}
 use Rattle.model.specs.Transcript.{answerLine, ownersIn, fresh, begun, opening, session}
-use Rattle.lines.proofs.PlaceLaws.{end-most}
+use Rattle.model.proofs.LineLaws.{end-most}
 use Rattle.runner.specs.Run.{written}
 use Rattle.runner.specs.Opened.{numberIn}
 use Rattle.runner.proofs.OpeningLaws.{opens, opens-fresh, turned-down}

@@ -35,7 +35,7 @@ use denote.Triple.Table.{entered, cited}
 use denote.Triple.Walked.{says, walkOf, ends-at}
 use denote.Triple.Clauses.{ensured, lasts}
 use Rattle.lines.specs.declared.reader.Reader.{Reader}
-use Rattle.lines.specs.Places.{movedTo}
+use Rattle.model.specs.Places.{movedTo}
 use Rattle.lines.specs.Reading.{answerOf}
 use Rattle.lines.proofs.ReaderWalk.{reader-type, reader-stays, reader-meets, text-val, D, L, fields, reader-own, twice, given-place, apart}
 use Rattle.lines.proofs.reader.Reader.Laws as T′

@@ -10,11 +10,11 @@ use lib.Dec.{eqb, ltb}
 use lib.ListN.{length, getD, drop, length-drop}
 use lib.Seq.{drop-drop, getD-drop, ext-getD}
 use borrow.Author.Tests.{ltb-true, ltb-false}
 use Rattle.model.specs.declared.Next.the-variants.{Ended}
 use Rattle.model.specs.Lines.{newline, onto, linesOf, lineAt, pastAt, nextAt}
 use Rattle.model.proofs.QuestionLaws.{length-up-to, up-to-at}
-use Rattle.lines.specs.Places.{movedTo, placeAfter, visited, EachLineOnce}
-use Rattle.lines.proofs.PlaceLaws.{past-later, no-lines, lines-at, answer-there, none-there}
+use Rattle.model.specs.Places.{movedTo, placeAfter, visited, EachLineOnce}
+use Rattle.model.proofs.LineLaws.{past-later, no-lines, lines-at, answer-there, none-there}
 
 -- ---- what is left after k answers
 drop-next : (lines rest : List (List ℕ)) (k : ℕ) → rest ≡ drop k lines → drop 1 rest ≡ drop (suc k) lines

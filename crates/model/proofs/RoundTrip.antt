@@ -8,16 +8,16 @@ use lib.Dec.{eqb}
 use lib.ListN.{length, drop, length-append, drop-of-length-le}
 use lib.Seq.{sets, sets-eq, take-at}
 use borrow.Author.Tests.{lt-ltb, le-ltb, eqb-true}
 use Rattle.model.specs.declared.Call.{Call}
 use Rattle.model.specs.declared.Call.the-variants.{MakeCopy, Receive, Delete, Ask}
 use Rattle.model.specs.declared.Read.the-variants.{Said, Refused}
 use Rattle.model.specs.declared.Next.the-variants.{Line}
 use Rattle.model.specs.Refusals.{BadLine}
 use Rattle.model.specs.Lines.{newline, digitsOf, byteAt, bytesOf, lineOf, writeCall, lineRefusal, readBytes, readLine, nextAt}
-use Rattle.lines.specs.Fields.{FieldsFit}
-use Rattle.lines.proofs.DigitLaws.{byte-of-digits, digits-of-byte-at, length-digits, width-of-digits}
-use Rattle.lines.proofs.CallLaws.{each-below, all-bytes, line-by-bytes, bytes-of-said}
-use Rattle.lines.proofs.PlaceLaws.{line-there}
+use Rattle.model.specs.Fields.{FieldsFit}
+use Rattle.model.proofs.DigitLaws.{byte-of-digits, digits-of-byte-at, length-digits, width-of-digits}
+use Rattle.model.proofs.CallLaws.{each-below, all-bytes, line-by-bytes, bytes-of-said}
+use Rattle.model.proofs.LineLaws.{line-there}
 
 -- the digits of four bytes read as those bytes
 line-of-bytes : (code a b c : ℕ) → code < 256 → a < 256 → b < 256 → c < 256 → readLine (digitsOf (code ∷ a ∷ b ∷ c ∷ [])) ≡ readBytes code a b c
