@@ -1,0 +1,110 @@
+/* The calls of a C desk, in document 01's words and order: the same for both. A desk defines NAME, INLINE and the six functions that are declared here. */
+#include "lent.h"
+
+/* 1, 2, 3. */
+INLINE unsigned front(const lent *d, int named);
+
+/* The lowest empty slot; the slot count where there is none. */
+INLINE size_t lowest_empty(const lent *d);
+
+/* Whether some slot holds an INC_DEC from a to b for the pointer. */
+INLINE int held(const lent *d, unsigned a, unsigned b, unsigned pointer);
+
+/* A message into a slot, and the accepted answer; EMPTY and zeros empty it. */
+INLINE desk_answer post(const lent *d, size_t slot, unsigned kind, unsigned from, unsigned to, unsigned third, unsigned pointer);
+
+/* What the pool adds to a site's share. */
+INLINE int32_t pooled(const lent *d, unsigned site, unsigned owner, unsigned pointer);
+
+/* The pool's messages into a sheet of zeros. */
+INLINE void enter(const lent *d, unsigned pointer, uint32_t *sheet);
+
+#define PARTS(SEND, RECEIVE, POOL) \
+    uint8_t sites, const uint8_t *owners, size_t owners_len, SEND *send, size_t send_len, RECEIVE *receive, size_t receive_len, POOL *pool, size_t pool_len
+#define LENT \
+    {sites, owners_len, pool_len / SLOT, owners, (uint16_t *)send, send_len, (uint8_t *)receive, receive_len, (uint8_t *)pool, pool_len}
+
+desk_answer NAME(make_copy)(PARTS(uint16_t, const uint8_t, uint8_t), uint8_t from, uint8_t to, uint8_t pointer) {
+    const lent d = LENT;
+    unsigned n = front(&d, (from < sites) & (to < sites) & (pointer < owners_len));
+    if (n) return refused(n);
+    size_t at = place(&d, from, pointer);
+    if (from == to) return refused(SAME_SITE);
+    if ((from != owners[pointer]) & !receive[at]) return refused(NOT_HELD);
+    if (send[at] == 65535) return refused(COUNTER_FULL);
+    size_t slot = lowest_empty(&d);
+    if (slot == d.slots) return refused(POOL_FULL);
+    send[at]++;
+    return post(&d, slot, COPY, from, to, 0, pointer);
+}
+
+INLINE desk_answer receive_copy(const lent *d, size_t slot, unsigned a, unsigned b, unsigned pointer) {
+    if (a == b) return refused(SAME_SITE);
+    uint8_t *cell = d->receive + place(d, b, pointer);
+    if (*cell) return post(d, slot, DEC, b, a, 0, pointer);
+    *cell = 1;
+    unsigned owner = d->owners[pointer];
+    if (a == owner) return post(d, slot, EMPTY, 0, 0, 0, 0);
+    return post(d, slot, INC_DEC, b, owner, a, pointer);
+}
+
+desk_answer NAME(receive)(PARTS(uint16_t, uint8_t, uint8_t), uint16_t slot) {
+    const lent d = LENT;
+    unsigned n = front(&d, slot < d.slots);
+    if (n) return refused(n);
+    const uint8_t *m = pool + slot * SLOT;
+    unsigned kind = m[0], a = m[1], b = m[2], third = m[3], pointer = m[4];
+    uint16_t *counter = send + place(&d, b, pointer);
+    if (kind == EMPTY) return refused(EMPTY_SLOT);
+    if (kind == COPY) return receive_copy(&d, slot, a, b, pointer);
+    if (kind == DEC) {
+        if (held(&d, a, b, pointer)) return refused(HELD);
+        if (!*counter) return refused(COUNTER_ZERO);
+        --*counter;
+        return post(&d, slot, EMPTY, 0, 0, 0, 0);
+    }
+    if (*counter == 65535) return refused(COUNTER_FULL);
+    ++*counter;
+    return post(&d, slot, DEC, b, third, 0, pointer);
+}
+
+desk_answer NAME(delete)(PARTS(const uint16_t, uint8_t, uint8_t), uint8_t site, uint8_t pointer) {
+    const lent d = LENT;
+    unsigned n = front(&d, (site < sites) & (pointer < owners_len));
+    if (n) return refused(n);
+    size_t at = place(&d, site, pointer);
+    unsigned owner = owners[pointer];
+    if (site == owner) return refused(IS_OWNER);
+    if (!receive[at]) return refused(NOT_HELD);
+    if (send[at]) return refused(STILL_COUNTED);
+    size_t slot = lowest_empty(&d);
+    if (slot == d.slots) return refused(POOL_FULL);
+    receive[at] = 0;
+    return post(&d, slot, DEC, site, owner, 0, pointer);
+}
+
+desk_answer NAME(ask)(PARTS(const uint16_t, const uint8_t, const uint8_t), uint8_t site, uint8_t pointer) {
+    const lent d = LENT;
+    unsigned n = front(&d, (site < sites) & (pointer < owners_len));
+    if (n) return refused(n);
+    if (site != owners[pointer]) return refused(NOT_OWNER);
+    return accepted(send[place(&d, site, pointer)] == 0);
+}
+
+desk_share_answer NAME(share)(PARTS(const uint16_t, const uint8_t, const uint8_t), uint8_t site, uint8_t pointer) {
+    const lent d = LENT;
+    unsigned n = front(&d, (site < sites) & (pointer < owners_len));
+    if (n) return (desk_share_answer){(uint8_t)n, 0};
+    unsigned owner = owners[pointer];
+    if (site == owner) return (desk_share_answer){IS_OWNER, 0};
+    return (desk_share_answer){0, receive[place(&d, site, pointer)] + pooled(&d, site, owner, pointer)};
+}
+
+uint8_t NAME(sheet)(PARTS(const uint16_t, const uint8_t, const uint8_t), uint8_t pointer, uint32_t *sheet, size_t sheet_len) {
+    const lent d = LENT;
+    if (sheet_len != SHEET) return BAD_SHAPE;
+    unsigned n = front(&d, pointer < owners_len);
+    __builtin_memset(sheet, 0, SHEET * sizeof *sheet);
+    if (!n) enter(&d, pointer, sheet);
+    return (uint8_t)n;
+}

@@ -1,0 +1,56 @@
+/* One call of one of the three desks: the same way to each. */
+#include "codes.h"
+
+/* One desk's calls. */
+typedef struct {
+    __typeof__(desk_make_copy) *make_copy;
+    __typeof__(desk_receive) *receive;
+    __typeof__(desk_delete) *delete;
+    __typeof__(desk_ask) *ask;
+    __typeof__(desk_share) *share;
+    __typeof__(desk_sheet) *sheet;
+} code;
+
+__typeof__(desk_make_copy) plain_make_copy, tuned_make_copy;
+__typeof__(desk_receive) plain_receive, tuned_receive;
+__typeof__(desk_delete) plain_delete, tuned_delete;
+__typeof__(desk_ask) plain_ask, tuned_ask;
+__typeof__(desk_share) plain_share, tuned_share;
+__typeof__(desk_sheet) plain_sheet, tuned_sheet;
+
+/* What a measurement costs by itself: taken off from all. */
+__attribute__((naked)) static void nothing(void) { __asm__("ret"); }
+
+static const volatile code TABLE[CODES] = {
+    {desk_make_copy, desk_receive, desk_delete, desk_ask, desk_share, desk_sheet},
+    {plain_make_copy, plain_receive, plain_delete, plain_ask, plain_share, plain_sheet},
+    {tuned_make_copy, tuned_receive, tuned_delete, tuned_ask, tuned_share, tuned_sheet},
+    {(void *)nothing, (void *)nothing, (void *)nothing, (void *)nothing, (void *)nothing, (void *)nothing},
+};
+
+uint32_t sheet[SHEET] __attribute__((aligned(64)));
+
+static answer of_call(desk_answer a) {
+    answer r = {a.number, a.value, {0}, 0};
+    __builtin_memcpy(r.message, a.message, SLOT);
+    return r;
+}
+
+static answer of_share(desk_share_answer a) { return (answer){a.number, 0, {0}, a.share}; }
+
+#define GIVEN t->sites, d->owners, t->pointers, d->send, t->send_len, d->receive, t->receive_len, d->pool, t->pool_len
+
+answer made(int which, sample *s) {
+    const volatile code *c = &TABLE[which];
+    const desk *d = &s->now;
+    const lengths *t = &d->told;
+    question q = s->asked;
+    switch (q.call) {
+    case MAKE_COPY: return of_call(c->make_copy(GIVEN, q.a, q.b, q.pointer));
+    case RECEIVE: return of_call(c->receive(GIVEN, q.slot));
+    case DELETE: return of_call(c->delete(GIVEN, q.a, q.pointer));
+    case ASK: return of_call(c->ask(GIVEN, q.a, q.pointer));
+    case SHARE: return of_share(c->share(GIVEN, q.a, q.pointer));
+    default: return (answer){c->sheet(GIVEN, q.pointer, sheet, t->sheet_len), 0, {0}, 0};
+    }
+}

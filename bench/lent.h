@@ -1,0 +1,40 @@
+/* What both C desks stand on: the lent parts under one name, the numbers of document 01, and the answers without a message. */
+#ifndef BENCH_LENT_H
+#define BENCH_LENT_H
+
+#include "pointer_desk.h"
+
+enum { EMPTY, COPY, DEC, INC_DEC };
+enum { SLOT = 5, MOST_SITES = 64, MOST_POINTERS = 256, MOST_SLOTS = 1024, SHEET = 192 };
+enum {
+    BAD_SHAPE = 1, BAD_TABLE, BAD_NAME, SAME_SITE, NOT_HELD, COUNTER_FULL, POOL_FULL,
+    EMPTY_SLOT, HELD, COUNTER_ZERO, IS_OWNER, STILL_COUNTED, NOT_OWNER, NUMBERS
+};
+
+typedef struct {
+    size_t sites, pointers, slots;
+    const uint8_t *owners;
+    uint16_t *send;
+    size_t send_len;
+    uint8_t *receive;
+    size_t receive_len;
+    uint8_t *pool;
+    size_t pool_len;
+} lent;
+
+/* BadShape. */
+static inline int bad_shape(const lent *d) {
+    if (d->sites < 1 || d->sites > MOST_SITES || d->pointers > MOST_POINTERS) return 1;
+    size_t cells = d->sites * d->pointers;
+    if (d->send_len != cells || d->receive_len != cells) return 1;
+    return d->slots > MOST_SLOTS || d->slots * SLOT != d->pool_len;
+}
+
+/* The place of a cell. */
+static inline size_t place(const lent *d, size_t site, size_t pointer) { return site * d->pointers + pointer; }
+
+static inline desk_answer refused(unsigned number) { return (desk_answer){(uint8_t)number, 0, {0, 0, 0, 0, 0}}; }
+
+static inline desk_answer accepted(size_t value) { return (desk_answer){0, (uint16_t)value, {0, 0, 0, 0, 0}}; }
+
+#endif

@@ -1,0 +1,101 @@
+/* (b): the same desk and the same tests, tuned. Each test reads its whole part in words and branches only on what all of it came to; a
+   search branches on the field that seldom matches. Everything is inlined, and the loops are unrolled. */
+#define NAME(call) tuned_##call
+#define INLINE static inline __attribute__((always_inline))
+#include "calls.h"
+
+#define EVERY(byte) ((byte) * 0x0101010101010101u)
+
+INLINE uint64_t load64(const uint8_t *p) { uint64_t x; __builtin_memcpy(&x, p, 8); return x; }
+INLINE uint32_t load32(const uint8_t *p) { uint32_t x; __builtin_memcpy(&x, p, 4); return x; }
+
+/* Bytes below 128 that pass their limit show in the top bit once the room is added; bytes of 128 or more show by themselves. */
+INLINE uint64_t with_room(uint64_t x, uint64_t room) { return x | (x + room); }
+
+/* The or of all bytes with their room, eight at a time; the last word may overlap the one before. */
+INLINE uint64_t seen_bytes(const uint8_t *b, size_t len, uint64_t room) {
+    uint64_t seen = 0;
+    if (len >= 8) {
+        _Pragma("clang loop vectorize(enable) interleave_count(8)")
+        for (size_t i = 0; i < len / 8; i++) seen |= with_room(load64(b + i * 8), room);
+        return seen | with_room(load64(b + len - 8), room);
+    }
+    if (len >= 4) return with_room(load32(b) | (uint64_t)load32(b + len - 4) << 32, room);
+    for (size_t i = 0; i < len; i++) seen |= with_room(b[i], room & 255);
+    return seen;
+}
+
+/* A slot's word, and what it becomes with the room of its kind. */
+INLINE uint64_t seen_slot(uint64_t x, const uint64_t *room) { return x | (x + room[x & 3]); }
+
+/* Whether every slot is good. The room, by kind: what may be added to each field before it reaches its top bit. */
+INLINE int slots_good(const lent *d) {
+    const uint64_t site = 128 - d->sites, pointer = (uint64_t)(256 - d->pointers) << 32, low = 0xffffffffff;
+    const uint64_t named = pointer + 0x7f000000 + site * 0x10100;
+    const uint64_t room[4] = {0xff7f7f7f00, named, named, pointer + site * 0x1010100};
+    if (!d->slots) return 1;
+    const uint8_t *p = d->pool, *last = p + d->pool_len - SLOT, *stop = p + (d->slots - 1) / 4 * (4 * SLOT);
+    uint64_t seen = seen_slot(load32(last) | (uint64_t)last[4] << 32, room);
+    for (; p != stop; p += 4 * SLOT) {
+        seen |= seen_slot(load64(p) & low, room) | seen_slot(load64(p + SLOT) & low, room);
+        seen |= seen_slot(load64(p + 2 * SLOT) & low, room) | seen_slot(load64(p + 3 * SLOT) & low, room);
+    }
+    _Pragma("nounroll")
+    for (; p != last; p += SLOT) seen |= seen_slot(load64(p) & low, room);
+    return (seen & 0x100808080fc) == 0;
+}
+
+INLINE unsigned front(const lent *d, int named) {
+    if (bad_shape(d)) return BAD_SHAPE;
+    uint64_t seen = seen_bytes(d->owners, d->pointers, EVERY(128 - d->sites)) & EVERY(0x80);
+    seen |= seen_bytes(d->receive, d->receive_len, 0) & EVERY(0xfe);
+    if (seen || !slots_good(d)) return BAD_TABLE;
+    return named ? 0 : BAD_NAME;
+}
+
+/* Does STEP on every slot p of the pool, eight in a row. */
+#define TWO(STEP) STEP p += SLOT; STEP p += SLOT;
+#define EACH_SLOT(STEP) \
+    const uint8_t *p = d->pool, *end = p + d->pool_len, *stop = p + d->slots / 8 * (8 * SLOT); \
+    while (p != stop) { TWO(STEP) TWO(STEP) TWO(STEP) TWO(STEP) } \
+    _Pragma("nounroll") \
+    while (p != end) { STEP p += SLOT; }
+
+/* Kind, from and to as one word. */
+INLINE uint32_t route(unsigned kind, unsigned from, unsigned to) { return kind | from << 8 | to << 16; }
+INLINE uint32_t route_of(const uint8_t *slot) { return load32(slot) & 0xffffff; }
+
+INLINE size_t lowest_empty(const lent *d) {
+    EACH_SLOT(if (!*p) return (size_t)(p - d->pool) / SLOT;)
+    return d->slots;
+}
+
+INLINE int held(const lent *d, unsigned a, unsigned b, unsigned pointer) {
+    const uint32_t inc_dec = route(INC_DEC, a, b);
+    EACH_SLOT(if (p[4] == pointer && route_of(p) == inc_dec) return 1;)
+    return 0;
+}
+
+INLINE desk_answer post(const lent *d, size_t slot, unsigned kind, unsigned from, unsigned to, unsigned third, unsigned pointer) {
+    const uint32_t word = route(kind, from, to) | third << 24;
+    uint8_t *at = d->pool + slot * SLOT;
+    desk_answer r = {0, (uint16_t)slot, {0, 0, 0, 0, (uint8_t)pointer}};
+    __builtin_memcpy(r.message, &word, 4);
+    __builtin_memcpy(at, &word, 4);
+    at[4] = (uint8_t)pointer;
+    return r;
+}
+
+INLINE int32_t pooled(const lent *d, unsigned site, unsigned owner, unsigned pointer) {
+    const uint32_t copy = route(COPY, owner, site), dec = route(DEC, site, owner), inc_dec = route(INC_DEC, site, owner);
+    int32_t sum = 0;
+    EACH_SLOT(if (p[4] == pointer) {
+        uint32_t x = route_of(p);
+        sum += (x == copy) + (x == dec) - (x == inc_dec);
+    })
+    return sum;
+}
+
+INLINE void enter(const lent *d, unsigned pointer, uint32_t *restrict sheet) {
+    EACH_SLOT(if (p[4] == pointer && p[0]) sheet[(p[0] - 1) * MOST_SITES + p[1]]++;)
+}
