@@ -13,6 +13,9 @@ slice-aggregate-read-full c = search needs
 read-full-requires : tie.Need-read-full-requires
 read-full-requires c κs = search needs
 
+tell-unreadable-requires : tie.Need-tell-unreadable-requires
+tell-unreadable-requires c κs = search needs
+
 array-share-prefix-input : tie.Need-array-share-prefix-input
 array-share-prefix-input c = search needs
 
@@ -45,6 +48,7 @@ main-spec =
     (tie.spec
     slice-aggregate-read-full
     read-full-requires
+    tell-unreadable-requires
     array-share-prefix-input
     slice-aggregate-run
     slice-aggregate-run-2
