@@ -8,7 +8,7 @@
 
 #include "pointer_desk.h"
 
-enum { MOST = 16384, KEPT = 0xA5, BEYOND = 64 };
+enum { MOST = 1 << 20, KEPT = 0xA5, BEYOND = 64 };
 
 static uint8_t input[MOST];
 static uint8_t output[DESK_RUN_ROOM + BEYOND];
