@@ -1,4 +1,8 @@
-/* The desk for C. The parts of document 01 are named with each call; a null pointer with length 0 is an empty part. */
+/*
+ * The desk for C. The parts of document 01 are named with each call, and the desk keeps none of them.
+ * A length counts elements: counters of `send`, counts of a sheet, bytes of the others.
+ * A null pointer with length 0 is an empty part; parts do not overlap.
+ */
 #ifndef POINTER_DESK_H
 #define POINTER_DESK_H
 
@@ -9,11 +13,39 @@
 extern "C" {
 #endif
 
+/* Why a call is turned down. */
+enum {
+    DESK_ACCEPTED = 0,
+    DESK_BAD_SHAPE = 1,
+    DESK_BAD_TABLE = 2,
+    DESK_BAD_NAME = 3,
+    DESK_SAME_SITE = 4,
+    DESK_NOT_HELD = 5,
+    DESK_COUNTER_FULL = 6,
+    DESK_POOL_FULL = 7,
+    DESK_EMPTY_SLOT = 8,
+    DESK_HELD = 9,
+    DESK_COUNTER_ZERO = 10,
+    DESK_IS_OWNER = 11,
+    DESK_STILL_COUNTED = 12,
+    DESK_NOT_OWNER = 13,
+    DESK_BAD_LINE = 14,
+    DESK_UNKNOWN_CODE = 15,
+    DESK_PRIVATE_CODE = 16,
+    DESK_TOO_LONG = 17,
+    DESK_BAD_BOOK = 18,
+    DESK_TWINS = 19,
+    DESK_NOT_LISTED = 20
+};
+
+/* What the host lends: the bytes of a slot. Share and sheet: the counts of a sheet. Lines: the output of a run. */
+enum { DESK_SLOT_BYTES = 5, DESK_SHEET_COUNTS = 192, DESK_RUN_ROOM = 139264 };
+
 /* The calls: a refusal number (0: accepted), a value, and the posted message as slot bytes (all 0: none). */
 typedef struct {
     uint8_t number;
     uint16_t value;
-    uint8_t message[5];
+    uint8_t message[DESK_SLOT_BYTES];
 } desk_answer;
 
 /* Share and sheet: a refusal number, and one signed whole number. */
@@ -76,6 +108,12 @@ desk_answer desk_book_check(uint8_t sites, const uint8_t *owners, size_t owners_
 desk_answer desk_book_search(uint8_t sites, const uint8_t *owners, size_t owners_len,
                              const uint8_t *book, size_t book_len,
                              uint8_t owner, const uint8_t *address, size_t address_len);
+
+/*
+ * Lines: the program `desk` as a call: bytes written; nothing and 0 where the output has less than 139,264 bytes.
+ * Its tables stand on the stack, about 55,000 bytes.
+ */
+size_t desk_run(const uint8_t *input, size_t input_len, uint8_t *output, size_t output_len);
 
 #ifdef __cplusplus
 }

@@ -1,0 +1,17 @@
+/* The three answers as C lays them out: size, alignment, and the place of each field. */
+#include <stdio.h>
+
+#include "pointer_desk.h"
+
+#define PLACE(type, field) printf(" %s %zu", #field, offsetof(type, field))
+#define WHOLE(name, type) printf("%s: size %zu align %zu", name, sizeof(type), _Alignof(type))
+
+int main(void) {
+    WHOLE("answer", desk_answer), PLACE(desk_answer, number), PLACE(desk_answer, value), PLACE(desk_answer, message);
+    putchar('\n');
+    WHOLE("share", desk_share_answer), PLACE(desk_share_answer, number), PLACE(desk_share_answer, share);
+    putchar('\n');
+    WHOLE("part", desk_part), PLACE(desk_part, number), PLACE(desk_part, at), PLACE(desk_part, length);
+    putchar('\n');
+    return 0;
+}

@@ -1,0 +1,179 @@
+// Every wrapper of pointer_desk.rs, accepted and refused; the answers are those of document 01.
+// A wrapper that is called nowhere here is dead code, which the compiler refuses.
+#[path = "../pointer_desk.rs"]
+mod pointer_desk;
+
+use pointer_desk::Message::{Copy, Dec, IncDec};
+use pointer_desk::{run, Accepted, Answer, Book, Lent, Refusal, Sheet, RUN_ROOM};
+
+struct Tally {
+    passed: usize,
+    failed: usize,
+}
+
+impl Tally {
+    fn expect(&mut self, name: &str, right: bool) {
+        self.passed += right as usize;
+        self.failed += !right as usize;
+        if !right {
+            println!("FAILED: {}", name);
+        }
+    }
+}
+
+fn accepted(value: u16) -> Answer {
+    Ok(Accepted { value, message: None })
+}
+
+fn posted(value: u16, message: pointer_desk::Message) -> Answer {
+    Ok(Accepted { value, message: Some(message) })
+}
+
+// Tables of a host, to lend and to look at.
+#[derive(Clone, PartialEq)]
+struct Tables {
+    sites: u8,
+    owners: Vec<u8>,
+    send: Vec<u16>,
+    receive: Vec<u8>,
+    pool: Vec<u8>,
+}
+
+impl Tables {
+    // One pointer of owner 0, which the other sites hold as said.
+    fn new(sites: u8, cells: &[u8], pool: &[[u8; 5]]) -> Tables {
+        Tables { sites, owners: vec![0], send: vec![0; cells.len()], receive: cells.to_vec(), pool: pool.concat() }
+    }
+
+    fn lend(&mut self) -> Lent<'_> {
+        Lent {
+            sites: self.sites,
+            owners: &self.owners,
+            send: &mut self.send,
+            receive: &mut self.receive,
+            pool: &mut self.pool,
+        }
+    }
+}
+
+// A call over tables is refused so, and every table holds what it held.
+fn refused(t: &mut Tally, name: &str, tables: &Tables, call: impl Fn(&mut Lent) -> Answer, why: Refusal) {
+    let mut lent = tables.clone();
+    let answer = call(&mut lent.lend());
+    t.expect(name, answer == Err(why) && lent == *tables);
+}
+
+// Document 01, Lines: the fourteen lines of its case, call by call.
+fn fourteen(t: &mut Tally) {
+    let mut tables = Tables::new(3, &[9, 9, 9], &[[9; 5]; 4]);
+    let mut desk = tables.lend();
+    t.expect("line 1", desk.open() == accepted(0));
+    t.expect("line 2", desk.make_copy(0, 1, 0) == posted(0, Copy { from: 0, to: 1, pointer: 0 }));
+    t.expect("line 3", desk.receive(0) == accepted(0));
+    t.expect("line 4", desk.make_copy(1, 2, 0) == posted(0, Copy { from: 1, to: 2, pointer: 0 }));
+    t.expect("line 5", desk.receive(0) == posted(0, IncDec { from: 2, to: 0, third: 1, pointer: 0 }));
+    t.expect("line 6", desk.delete(2, 0) == posted(1, Dec { from: 2, to: 0, pointer: 0 }));
+    t.expect("line 7", desk.receive(1) == Err(Refusal::Held));
+    t.expect("line 8", desk.ask(0, 0) == accepted(0));
+    t.expect("line 9", desk.receive(0) == posted(0, Dec { from: 0, to: 1, pointer: 0 }));
+    t.expect("line 10", desk.receive(1) == accepted(1));
+    t.expect("line 11", desk.receive(0) == accepted(0));
+    t.expect("line 12", desk.delete(1, 0) == posted(0, Dec { from: 1, to: 0, pointer: 0 }));
+    t.expect("line 13", desk.receive(0) == accepted(0));
+    t.expect("line 14", desk.ask(0, 0) == accepted(1));
+    t.expect("the tables after", tables == Tables::new(3, &[1, 0, 0], &[[0; 5]; 4]));
+}
+
+// Document 01, Why a call is turned down: the refusals of the calls.
+fn refusals(t: &mut Tally) {
+    let good = Tables::new(3, &[1, 1, 0], &[[0; 5], [1, 0, 2, 0, 0]]);
+    let counted = |site: usize, count| {
+        let mut tables = good.clone();
+        tables.send[site] = count;
+        tables
+    };
+    let with = |slot| Tables::new(3, &[1, 1, 0], &[slot]);
+    refused(t, "open, S = 65", &Tables { sites: 65, ..good.clone() }, |d| d.open(), Refusal::BadShape);
+    refused(t, "open, an owner of 3", &Tables { owners: vec![3], ..good.clone() }, |d| d.open(), Refusal::BadTable);
+    refused(t, "copy of pointer 1", &good, |d| d.make_copy(0, 1, 1), Refusal::BadName);
+    refused(t, "copy to its sender", &good, |d| d.make_copy(1, 1, 0), Refusal::SameSite);
+    refused(t, "copy by site 2", &good, |d| d.make_copy(2, 1, 0), Refusal::NotHeld);
+    refused(t, "copy by a full counter", &counted(0, 65535), |d| d.make_copy(0, 1, 0), Refusal::CounterFull);
+    refused(t, "copy to a full pool", &with([1, 0, 2, 0, 0]), |d| d.make_copy(0, 1, 0), Refusal::PoolFull);
+    refused(t, "receive of nothing", &good, |d| d.receive(0), Refusal::EmptySlot);
+    refused(t, "receive of a DEC to 0", &with([2, 1, 0, 0, 0]), |d| d.receive(0), Refusal::CounterZero);
+    refused(t, "delete at the owner", &good, |d| d.delete(0, 0), Refusal::IsOwner);
+    refused(t, "delete while counted", &counted(1, 1), |d| d.delete(1, 0), Refusal::StillCounted);
+    refused(t, "ask elsewhere", &good, |d| d.ask(1, 0), Refusal::NotOwner);
+}
+
+// Document 01, Share and sheet: its own example, and a message of each kind in the column where it came from.
+fn share_and_sheet(t: &mut Tally) {
+    let mut below = Tables::new(2, &[1, 0], &[[3, 1, 0, 0, 0]]);
+    t.expect("a share of minus 1", below.lend().share(1, 0) == Ok(-1));
+    t.expect("a share at the owner", below.lend().share(0, 0) == Err(Refusal::IsOwner));
+    let slots = [[1, 0, 1, 0, 0], [2, 1, 0, 0, 0], [3, 2, 0, 1, 0], [2, 1, 0, 0, 0]];
+    let mut mixed = Tables::new(3, &[1, 1, 1], &slots);
+    let mut wanted: Sheet = [[0; 64]; 3];
+    wanted[0][0] = 1;
+    wanted[1][1] = 2;
+    wanted[2][2] = 1;
+    t.expect("a sheet", mixed.lend().sheet(0) == Ok(wanted));
+    t.expect("a sheet of pointer 1", mixed.lend().sheet(1) == Err(Refusal::BadName));
+}
+
+// Document 01, The address book.
+fn books(t: &mut Tally) {
+    let book = Book { sites: 2, owners: &[0, 1], entries: b"\x02AB\x01C" };
+    t.expect("an address", book.address(0) == Ok(b"AB"));
+    t.expect("the last address", book.address(1) == Ok(b"C"));
+    t.expect("an address is part of the book", book.address(1).map(|a| a.as_ptr()) == Ok(&book.entries[4]));
+    t.expect("an address of pointer 2", book.address(2) == Err(Refusal::BadName));
+    t.expect("a check", book.check() == accepted(0));
+    t.expect("a check of twins", Book { owners: &[1, 1], entries: b"\x01C\x01C", ..book }.check() == Err(Refusal::Twins));
+    t.expect("a check of a short book", Book { entries: b"\x02AB", ..book }.check() == Err(Refusal::BadBook));
+    t.expect("a search", book.search(1, b"C") == accepted(1));
+    t.expect("a search by another owner", book.search(0, b"C") == Err(Refusal::NotListed));
+    t.expect("a search by no site", book.search(2, b"C") == Err(Refusal::BadName));
+}
+
+// Empty slices: no pointer, no slot, no entry, no address.
+fn empty_slices(t: &mut Tally) {
+    let none = Tables { sites: 2, owners: vec![], send: vec![], receive: vec![], pool: vec![] };
+    t.expect("an empty desk opens", none.clone().lend().open() == accepted(0));
+    refused(t, "an empty desk, copy", &none, |d| d.make_copy(0, 1, 0), Refusal::BadName);
+    refused(t, "an empty desk, receive", &none, |d| d.receive(0), Refusal::BadName);
+    refused(t, "an empty desk, delete", &none, |d| d.delete(1, 0), Refusal::BadName);
+    refused(t, "an empty desk, ask", &none, |d| d.ask(0, 0), Refusal::BadName);
+    t.expect("an empty desk, share", none.clone().lend().share(1, 0) == Err(Refusal::BadName));
+    t.expect("an empty desk, sheet", none.clone().lend().sheet(0) == Err(Refusal::BadName));
+    let book = Book { sites: 1, owners: &[], entries: &[] };
+    t.expect("an empty book, address", book.address(0) == Err(Refusal::BadName));
+    t.expect("an empty book, check", book.check() == accepted(0));
+    t.expect("an empty book, search", book.search(0, &[]) == Err(Refusal::NotListed));
+}
+
+// Document 01, Lines: the program as a call.
+fn runs(t: &mut Tally) {
+    let (input, wanted) = (include_bytes!("../../cases/fourteen.in"), include_bytes!("../../cases/fourteen.out"));
+    let mut output = vec![0xA5; RUN_ROOM + 1];
+    t.expect("a run", run(input, &mut output) == Some(wanted));
+    t.expect("a run of nothing", run(&[], &mut output) == Some(&[]));
+    let mut short = vec![0xA5; RUN_ROOM - 1];
+    t.expect("a run without room", run(input, &mut short).is_none() && short.iter().all(|&b| b == 0xA5));
+    t.expect("a run into nothing", run(input, &mut []).is_none());
+}
+
+fn main() {
+    let mut t = Tally { passed: 0, failed: 0 };
+    fourteen(&mut t);
+    refusals(&mut t);
+    share_and_sheet(&mut t);
+    books(&mut t);
+    empty_slices(&mut t);
+    runs(&mut t);
+    let numbers: Vec<u8> = Refusal::LISTED.iter().map(|r| r.number()).collect();
+    t.expect("the numbers are 1 to 20", numbers == (1..=20).collect::<Vec<u8>>());
+    println!("{} passed, {} failed", t.passed, t.failed);
+    std::process::exit((t.failed != 0 || t.passed == 0) as i32);
+}
