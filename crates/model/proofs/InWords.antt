@@ -1,5 +1,5 @@
 -- Rows 1 and 2 in words: when lent parts of document 01 are well shaped, and when their tables are good.
-use Prim.Native.Nat.{ℕ, zero, suc, _+_, _*_, _/_, _%_, _<_}
+use Prim.Native.Nat.{ℕ, zero, suc, _*_, _/_, _%_, _<_}
 use mathlib.Core.Path.{_≡_, refl}
 use mathlib.Core.Logic.{_↔_}
 use mathlib.Core.Bool.{true, _&&_}
@@ -8,11 +8,12 @@ use native.Mathlib.Omega.{arith}
 use lib.ListN.{length, getD}
 use borrow.Author.Tests.{le-leb, ltb-true, lt-ltb, eqb-true, eq-eqb}
 use Rattle.model.specs.Tables.{Desk, byteBelow, allBelow, atSlot, slotGood, slotsOf, allSlotsGood}
+use Rattle.model.specs.InWords.{Shaped, GoodSlot, no-message, a-copy, a-dec, an-inc-dec, GoodTables}
 use Rattle.model.specs.Flat.{flat}
 use Rattle.model.proofs.TestLaws.{and-both}
 use Rattle.model.proofs.QuestionLaws.{every-at, every-all}
 use Rattle.model.proofs.SlotLaws.{full, empty-zeros}
-use Rattle.model.proofs.ShapeLaws.{Shaped, shaped, byte-below}
+use Rattle.model.proofs.ShapeLaws.{shaped, byte-below}
 
 -- every byte is below n
 Below : ℕ → List ℕ → Type 0
@@ -25,13 +26,7 @@ all-below-in-words n bytes = (
   (λ h. every-all (byteBelow n bytes) (length bytes) (λ i l. lt-ltb _ _ (h i l))),
 )
 
--- ---- a slot, for S sites and G pointers: five zero bytes; a COPY or a DEC; an INC_DEC
-pub data GoodSlot (S G : ℕ) : ℕ → ℕ → ℕ → ℕ → ℕ → Type 0 where
-  no-message : GoodSlot S G 0 0 0 0 0
-  a-copy : {from to p : ℕ} → from < S → to < S → p < G → GoodSlot S G 1 from to 0 p
-  a-dec : {from to p : ℕ} → from < S → to < S → p < G → GoodSlot S G 2 from to 0 p
-  an-inc-dec : {from to third p : ℕ} → from < S → to < S → third < S → p < G → GoodSlot S G 3 from to third p
-
+-- ---- a slot
 slot-in-words : (S G kind from to third p : ℕ) → slotGood S G kind from to third p ≡ true → GoodSlot S G kind from to third p
 slot-in-words S G zero a b c p e =
     let z = empty-zeros a b c p e in
@@ -54,13 +49,6 @@ slot-from-words S G kind from to third p no-message = refl
 slot-from-words S G kind from to third p (a-copy l m n) = rw (lt-ltb from S l, lt-ltb to S m, lt-ltb p G n)
 slot-from-words S G kind from to third p (a-dec l m n) = rw (lt-ltb from S l, lt-ltb to S m, lt-ltb p G n)
 slot-from-words S G kind from to third p (an-inc-dec l m k n) = rw (lt-ltb from S l, lt-ltb to S m, lt-ltb third S k, lt-ltb p G n)
-
--- what makes the tables good: every owner is a site, every receive byte is 0 or 1, every slot is good
-pub record GoodTables (d : Desk) : Type 0 where
-  pub owners : (p : ℕ) → p < length (d .owners) → getD (d .owners) p 0 < d .S
-  pub cells : (i : ℕ) → i < length (d .receive) → getD (d .receive) i 0 < 2
-  pub slots : (i : ℕ) → i < slotsOf (d .pool)
-      → GoodSlot (d .S) (length (d .owners)) (getD (d .pool) (i * 5) 0) (getD (d .pool) (i * 5 + 1) 0) (getD (d .pool) (i * 5 + 2) 0) (getD (d .pool) (i * 5 + 3) 0) (getD (d .pool) (i * 5 + 4) 0)
 
 -- BadShape is given exactly where S is not 1 to 64, G is above 256, a length is another than S x G, or the pool is not 0 to 1,024 slots of 5 bytes.
 pub shape-in-words : (d : Desk) → (flat .shaped d ≡ true) ↔ Shaped (d .S) (length (d .owners)) (length (d .send)) (length (d .receive)) (length (d .pool))

@@ -1,15 +1,19 @@
--- Where an accepted call puts what it posts: make copy and delete in the lowest empty slot, receive in the handled one.
+-- Where an accepted call puts what it posts (make copy and delete in the lowest empty slot, receive in the handled one), and what a received message posts.
 use Prim.Native.Nat.{ℕ}
 use mathlib.Core.Path.{_≡_, refl, sym, ap, _∙_, subst}
-use Rattle.model.specs.declared.Posted.the-variants.{Copy, Dec as Decr}
+use mathlib.Core.Logic.{_≢_}
+use Rattle.model.specs.declared.Posted.{Posted}
+use Rattle.model.specs.declared.Posted.the-variants.{Copy, Dec as Decr, IncDec, Nothing}
 use Rattle.model.specs.declared.Answer.{Answer}
 use Rattle.model.specs.declared.Call.the-variants.{MakeCopy, Receive, Delete}
+use Rattle.model.specs.Messages.{receiver, pointerOf, reply}
 use Rattle.model.specs.Layout.{Layout}
 use Rattle.model.specs.Calls.{lowestEmpty, copyNumber, copied, makeCopy, replied, receiveNumber, received, receive, deleteNumber, deleted, delete, step}
 use Rattle.model.specs.Laws.{Laws}
 use Rattle.model.specs.Demands.{LowestEmpty}
 use Rattle.model.proofs.PlaceLaws.{changed-slot}
 use Rattle.model.proofs.Accepted.{copy-accepted, delete-accepted, receive-accepted}
+use Rattle.model.proofs.ReplyLaws.{reply-held, reply-home, reply-away}
 use Rattle.model.proofs.ReadsLaws.{copied-reads, deleted-reads, received-reads}
 use Rattle.model.proofs.Exactly.{number-of-unless}
 use Rattle.model.proofs.Demand2.{accepted-as, copy-answer, delete-answer}
@@ -50,3 +54,30 @@ module _ {D : Type 0} (L : Layout D) (W : Laws L) where
   receive-posts d slot = accepted-as (λ e. message e slot ≡ replied L d slot) (receiveNumber L d slot) d (received L d slot) (λ z.
       let c = receive-accepted L W d slot z in
       received-reads L W d slot c .as-messages slot (c .in-pool) ∙ changed-slot (message d) slot (replied L d slot))
+
+-- What a received message posts, by its kind, the receiver's cell and the owner; on any layout.
+module _ {D : Type 0} (L : Layout D) (d : D) (slot : ℕ) where
+  open Layout L using (owner, cell, message)
+
+  as-message : {m : Posted} → message d slot ≡ m → replied L d slot ≡ reply m (cell d (receiver m) (pointerOf m)) (owner d (pointerOf m))
+  as-message e = ap (λ (m : Posted). reply m (cell d (receiver m) (pointerOf m)) (owner d (pointerOf m))) e
+
+  -- COPY(a, b) where b's cell is 1: DEC(b, a)
+  pub copy-to-holder : {a b p : ℕ} → message d slot ≡ Copy a b p → cell d b p ≡ 1 → replied L d slot ≡ Decr b a p
+  copy-to-holder {a} {b} {p} e h = as-message e ∙ reply-held a b p (cell d b p) (owner d p) h
+
+  -- COPY(a, b) where it is not, from the owner: nothing
+  pub copy-from-owner : {a b p : ℕ} → message d slot ≡ Copy a b p → cell d b p ≢ 1 → a ≡ owner d p → replied L d slot ≡ Nothing
+  copy-from-owner {a} {b} {p} e h home = as-message e ∙ reply-home a b p (cell d b p) (owner d p) h home
+
+  -- and from another site: INC_DEC(b, owner, third a)
+  pub copy-from-other : {a b p : ℕ} → message d slot ≡ Copy a b p → cell d b p ≢ 1 → a ≢ owner d p → replied L d slot ≡ IncDec b (owner d p) a p
+  copy-from-other {a} {b} {p} e h away = as-message e ∙ reply-away a b p (cell d b p) (owner d p) h away
+
+  -- INC_DEC(a, b, third c): DEC(b, c)
+  pub inc-dec-posts : {a b c p : ℕ} → message d slot ≡ IncDec a b c p → replied L d slot ≡ Decr b c p
+  inc-dec-posts e = as-message e
+
+  -- DEC(a, b): nothing
+  pub dec-posts : {a b p : ℕ} → message d slot ≡ Decr a b p → replied L d slot ≡ Nothing
+  dec-posts e = as-message e

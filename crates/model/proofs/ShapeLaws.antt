@@ -1,5 +1,5 @@
 -- What lent tables say that pass 1 and 2, and what an opening writes.
-use Prim.Native.Nat.{ℕ, zero, suc, _+_, _*_, _/_, _%_, _≤_, _<_}
+use Prim.Native.Nat.{ℕ, zero, suc, _+_, _*_, _≤_, _<_}
 use mathlib.Core.Path.{_≡_, refl, _∙_}
 use mathlib.Core.Bool.{true, not}
 use mathlib.Core.List.{List, [], _∷_, _++_}
@@ -13,29 +13,18 @@ use borrow.Author.Tests.{leb-true, ltb-true, eqb-true, not-false, lt-ltb}
 use Rattle.model.specs.Refusals.{_when_}
 use Rattle.model.specs.Calls.{lentRefusal}
 use Rattle.model.specs.Tables.{Desk, sizesGood, lengthsGood, shapeGood, allBelow, allSlotsGood, byteBelow, ownRow, ownRows}
+use Rattle.model.specs.InWords.{Sized, Shaped}
 use Rattle.model.specs.Flat.{flat, place}
 use Rattle.model.proofs.TestLaws.{and-both, when-not, or-else-none, at-most-1}
 use Rattle.model.proofs.QuestionLaws.{every-at, every-all}
 use Rattle.model.proofs.PlaceLaws.{place-inside}
 
 -- ---- sizes and lengths
-pub record Sized (s g : ℕ) : Type 0 where
-  pub some-site : 1 ≤ s
-  pub few-sites : s ≤ 64
-  pub few-pointers : g ≤ 256
-
 pub sized : (s g : ℕ) → sizesGood s g ≡ true → Sized s g
 sized s g e =
     let e1 = and-both _ _ e in
     let e2 = and-both _ _ (e1 .0) in
     record { some-site = leb-true _ _ (e2 .0); few-sites = leb-true _ _ (e2 .1); few-pointers = leb-true _ _ (e1 .1) }
-
-pub record Shaped (s g sends receives pools : ℕ) : Type 0 where
-  pub sizes : Sized s g
-  pub send-length : sends ≡ s * g
-  pub receive-length : receives ≡ s * g
-  pub whole-slots : pools % 5 ≡ 0
-  pub few-slots : pools / 5 ≤ 1024
 
 pub shaped : (s g sends receives pools : ℕ) → shapeGood s g sends receives pools ≡ true → Shaped s g sends receives pools
 shaped s g sends receives pools e =

@@ -11,7 +11,7 @@ use Rattle.moreau.specs.StateSpace.{Msg, DEC, INC-DEC, ⟅_⟆, initial}
 use Rattle.moreau.specs.Transformers.{MayCopy, MayReceive, MayDelete}
 use Rattle.moreau.specs.Transitions.{PaperGuard}
 use Rattle.moreau.proofs.Guards.{paper-guard}
-use Rattle.model.specs.declared.Posted.the-variants.{Copy, Dec as Decr, Nothing}
+use Rattle.model.specs.declared.Posted.the-variants.{Copy, Dec as Decr, IncDec, Nothing}
 use Rattle.model.specs.declared.Call.{Call}
 use Rattle.model.specs.declared.Call.the-variants.{MakeCopy, Receive, Delete, Ask}
 use Rattle.model.specs.declared.Read.the-variants.{Said}
@@ -21,13 +21,13 @@ use Rattle.model.specs.Answers.{accepted, refused}
 use Rattle.model.specs.Calls.{heldRefusal, lowestEmpty, lentRefusal, openDesk, replied, step}
 use Rattle.model.specs.Survey.{inFlight, sharePlus, shareMinus, shareOf, sharesOfOthers, share, sheetNumber}
 use Rattle.model.specs.Tables.{Desk}
+use Rattle.model.specs.InWords.{Shaped, GoodTables}
 use Rattle.model.specs.Flat.{flat}
 use Rattle.model.specs.Lines.{digitsOf, bytesOf, writeCall, readLine, nextAt}
 use Rattle.model.specs.Fields.{FieldsFit}
 use Rattle.model.specs.Meaning.{meant, meaning}
 use Rattle.model.specs.Demands.{FirstOf, _among_, listed, openRows, heldRows, rowsOf, TellsEarly, shareRows, sheetRows, LowestEmpty, names, controls, MakesCopy, Receives, Deletes, Reached, Quiet}
 use Rattle.model.proofs.FlatLaws.{flat-laws}
-use Rattle.model.proofs.ShapeLaws.{Shaped}
 use Rattle.model.proofs.InWords as in-words
 use Rattle.model.proofs.MeaningLaws as meaning-laws
 use Rattle.model.proofs.Exactly as exactly
@@ -79,7 +79,7 @@ opening-means = meaning-laws.opening-means flat flat-laws
 pub shape-in-words : (d : Desk) → (flat .shaped d ≡ true) ↔ Shaped (d .S) (length (d .owners)) (length (d .send)) (length (d .receive)) (length (d .pool))
 shape-in-words = in-words.shape-in-words
 
-pub sound-in-words : (d : Desk) → (flat .sound d ≡ true) ↔ in-words.GoodTables d
+pub sound-in-words : (d : Desk) → (flat .sound d ≡ true) ↔ GoodTables d
 sound-in-words = in-words.sound-in-words
 
 pub owned-in-words : (d : Desk) → (flat .owned d ≡ true) ↔ ((p : ℕ) → p < length (d .owners) → getD (d .owners) p 0 < d .S)
@@ -143,6 +143,23 @@ delete-posts = placed.delete-posts flat flat-laws
 
 pub receive-posts : (d : Desk) (slot : ℕ) → step flat d (Receive slot) .answer .number ≡ 0 → flat .message (step flat d (Receive slot) .desk) slot ≡ replied flat d slot
 receive-posts = placed.receive-posts flat flat-laws
+
+-- What a received message posts, by its kind, the receiver's cell and the owner.
+pub copy-to-holder : (d : Desk) (slot : ℕ) {a b p : ℕ} → flat .message d slot ≡ Copy a b p → flat .cell d b p ≡ 1 → replied flat d slot ≡ Decr b a p
+copy-to-holder = placed.copy-to-holder flat
+
+pub copy-from-owner : (d : Desk) (slot : ℕ) {a b p : ℕ} → flat .message d slot ≡ Copy a b p → flat .cell d b p ≢ 1 → a ≡ flat .owner d p → replied flat d slot ≡ Nothing
+copy-from-owner = placed.copy-from-owner flat
+
+pub copy-from-other : (d : Desk) (slot : ℕ) {a b p : ℕ} → flat .message d slot ≡ Copy a b p → flat .cell d b p ≢ 1 → a ≢ flat .owner d p
+    → replied flat d slot ≡ IncDec b (flat .owner d p) a p
+copy-from-other = placed.copy-from-other flat
+
+pub inc-dec-posts : (d : Desk) (slot : ℕ) {a b c p : ℕ} → flat .message d slot ≡ IncDec a b c p → replied flat d slot ≡ Decr b c p
+inc-dec-posts = placed.inc-dec-posts flat
+
+pub dec-posts : (d : Desk) (slot : ℕ) {a b p : ℕ} → flat .message d slot ≡ Decr a b p → replied flat d slot ≡ Nothing
+dec-posts = placed.dec-posts flat
 
 -- Where the machine permits a transition, the names are in range, a counter to be raised stands below 65,535, one to be lowered above 0, and a slot is empty where one is needed, the call is accepted.
 pub copy-permitted : (d : Desk) (from to p slot : ℕ) → lentRefusal flat d ≡ 0 → from < d .S → to < d .S → p < flat .pointers d → MayCopy from to p (meaning flat d)

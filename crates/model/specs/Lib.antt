@@ -8,6 +8,7 @@ pub mod Survey
 pub mod Laws
 pub mod Tables
 pub mod Flat
+pub mod InWords
 pub mod Meaning
 pub mod Demands
 pub mod Lines
