@@ -3,14 +3,15 @@ use Prim.Native.Nat.{ℕ, zero, suc, _*_, _/_, _%_, _<_}
 use mathlib.Core.Path.{_≡_, refl}
 use mathlib.Core.Logic.{_↔_}
 use mathlib.Core.Bool.{true, _&&_}
-use mathlib.Core.List.{List}
+use mathlib.Core.List.{List, []}
 use native.Mathlib.Omega.{arith}
-use lib.ListN.{length, getD}
+use lib.ListN.{length, getD, replicate, length-replicate}
 use borrow.Author.Tests.{le-leb, ltb-true, lt-ltb, eqb-true, eq-eqb}
-use Rattle.model.specs.Tables.{Desk, byteBelow, allBelow, atSlot, slotGood, slotsOf, allSlotsGood}
+use Rattle.model.specs.Tables.{Desk, byteBelow, allBelow, atSlot, slotGood, slotsOf, allSlotsGood, lent, sizesGood, ownersRefusal}
+use Rattle.model.specs.Calls.{openRefusal}
 use Rattle.model.specs.InWords.{Shaped, GoodSlot, no-message, a-copy, a-dec, an-inc-dec, GoodTables}
 use Rattle.model.specs.Flat.{flat}
-use Rattle.model.proofs.TestLaws.{and-both}
+use Rattle.model.proofs.TestLaws.{and-both, and-true}
 use Rattle.model.proofs.QuestionLaws.{every-at, every-all}
 use Rattle.model.proofs.SlotLaws.{full, empty-zeros}
 use Rattle.model.proofs.ShapeLaws.{shaped, byte-below}
@@ -85,3 +86,9 @@ sound-in-words d = (
 pub owned-in-words : (d : Desk) → (flat .owned d ≡ true) ↔ ((p : ℕ) → p < length (d .owners) → getD (d .owners) p 0 < d .S)
 unfolding Below
 owned-in-words d = all-below-in-words (d .S) (d .owners)
+
+-- S and owners that are lent with a book are refused as an opening of well-sized parts would refuse them.
+pub owners-as-opening : (s : ℕ) (owners : List ℕ) → ownersRefusal s owners ≡ openRefusal flat (lent s owners (replicate (s * length owners) 0) (replicate (s * length owners) 0) [])
+unfolding ownersRefusal openRefusal
+owners-as-opening s owners =
+    rw (length-replicate {A = ℕ} (s * length owners) 0, eq-eqb (s * length owners) (s * length owners) refl, and-true (sizesGood s (length owners)))

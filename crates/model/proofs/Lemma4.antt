@@ -2,7 +2,7 @@
 use Prim.Native.Nat.{ℕ, zero, suc, _+_, _<_}
 use mathlib.Core.Path.{_≡_, refl, sym, ap, _∙_}
 use mathlib.Core.Logic.{_≢_}
-use mathlib.Core.Bool.{Bool, true, false, _&&_}
+use mathlib.Core.Bool.{Bool, _&&_}
 use native.Mathlib.Decide.{ℕ-discrete}
 use lib.Dec.{eqb}
 use borrow.Author.Tests.{eq-eqb, ne-eqb}
@@ -19,7 +19,7 @@ use Rattle.model.specs.Laws.{Inside, Laws}
 use Rattle.model.specs.Survey.{inFlight}
 use Rattle.model.specs.Meaning.{meant, configOf}
 use Rattle.model.specs.Demands.{controls}
-use Rattle.model.proofs.TestLaws.{and-false}
+use Rattle.model.proofs.TestLaws.{and-true, and-false}
 use Rattle.model.proofs.PoolLaws.{total-same}
 use Rattle.model.proofs.KeptLaws.{sent}
 use Rattle.model.proofs.ReachedLaws.{Stands}
@@ -31,10 +31,6 @@ total-of-slots S p w zero bags = total-empty S p w ∅ (λ m e. refl)
 total-of-slots S p w (suc n) bags =
     total-union S p w (λ m. total n (λ i. bags i m)) (bags n)
     ∙ ap (λ (k : ℕ). k + totalOf S p w (bags n)) (total-of-slots S p w n bags)
-
-and-true : (b : Bool) → (b && true) ≡ b
-and-true true = refl
-and-true false = refl
 
 -- one message m, under control of the site t
 one-controlled : (S p s t : ℕ) (m : Msg) → Within S m → under s Each m ≡ (1 if t is s) → totalOf S p (under s Each) ⟅ m ⟆ ≡ (1 when (eqb t s && eqb (pointer m) p))

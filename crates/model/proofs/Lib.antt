@@ -35,5 +35,8 @@ pub mod LineLaws
 pub mod RoundTrip
 pub mod EachLineOnce
 pub mod TheDesk
+pub mod LineTable
 pub mod Fourteen
+pub mod RefusedLines
+pub mod SurveyCases
 pub mod Edges

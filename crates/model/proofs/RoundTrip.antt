@@ -5,7 +5,7 @@ use mathlib.Core.Bool.{Bool, true, false, cond}
 use mathlib.Core.List.{List, [], _∷_, _++_, append-assoc}
 use native.Mathlib.Omega.{arith}
 use lib.Dec.{eqb}
-use lib.ListN.{length, drop, length-append, drop-of-length-le}
+use lib.ListN.{length, getD, drop, length-append, drop-of-length-le}
 use lib.Seq.{sets, sets-eq, take-at}
 use borrow.Author.Tests.{lt-ltb, le-ltb, eqb-true}
 use Rattle.model.specs.declared.Call.{Call}
@@ -60,6 +60,31 @@ written-of-read line call e =
     (digits-of-byte-at line (byteAt line 2 ∷ byteAt line 3 ∷ []) 1 (omega arith) (below .1)
     (digits-of-byte-at line (byteAt line 3 ∷ []) 2 (omega arith) (below .2)
     (digits-of-byte-at line [] 3 (omega arith) (below .3) (sym (drop-of-length-le line end)))))
+
+-- and the fields of a call that is read fit their types
+fields-below : (call : Call) (code a b c : ℕ) → bytesOf call ≡ code ∷ a ∷ b ∷ c ∷ [] → a < 256 → b < 256 → c < 256 → FieldsFit call
+fields-below (MakeCopy from to p) code a b c e ha hb hc =
+    let x : from ≡ a = ap (λ (l : List ℕ). getD l 1 0) e in
+    let y : to ≡ b = ap (λ (l : List ℕ). getD l 2 0) e in
+    let z : p ≡ c = ap (λ (l : List ℕ). getD l 3 0) e in
+    (omega arith, omega arith, omega arith)
+fields-below (Receive slot) code a b c e ha hb hc = let x : slot / 256 ≡ a = ap (λ (l : List ℕ). getD l 1 0) e in omega arith
+fields-below (Delete site p) code a b c e ha hb hc =
+    let x : site ≡ a = ap (λ (l : List ℕ). getD l 1 0) e in
+    let y : p ≡ b = ap (λ (l : List ℕ). getD l 2 0) e in
+    (omega arith, omega arith)
+fields-below (Ask site p) code a b c e ha hb hc =
+    let x : site ≡ a = ap (λ (l : List ℕ). getD l 1 0) e in
+    let y : p ≡ b = ap (λ (l : List ℕ). getD l 2 0) e in
+    (omega arith, omega arith)
+
+pub fits-of-read : (line : List ℕ) (call : Call) → readLine line ≡ Said call → FieldsFit call
+unfolding readLine
+fits-of-read line call e =
+    let s = said-of-line (eqb (length line) 8) line call refl e in
+    let b = bytes-of-said (byteAt line 0) (byteAt line 1) (byteAt line 2) (byteAt line 3) call (s .1) in
+    let below = each-below (byteAt line 0) (byteAt line 1) (byteAt line 2) (byteAt line 3) (b .0) in
+    fields-below call _ _ _ _ (b .1) (below .1) (below .2) (below .3)
 
 -- the writer puts that line back, and its newline
 pub line-written-back : (text line : List ℕ) (call : Call) → readLine line ≡ Said call → 9 ≤ length text → writeCall text call .desk ≡ sets text 0 (line ++ (newline ∷ []))

@@ -21,6 +21,10 @@ pub and-both : (a b : Bool) → (a && b) ≡ true → (a ≡ true) × (b ≡ tru
 and-both true b e = (refl, e)
 and-both false b e = true-not-false (sym e)
 
+pub and-true : (a : Bool) → (a && true) ≡ a
+and-true true = refl
+and-true false = refl
+
 pub and-false : (a : Bool) → (a && false) ≡ false
 and-false true = refl
 and-false false = refl

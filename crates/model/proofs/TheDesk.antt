@@ -186,6 +186,9 @@ next-of-written = round-trip.next-of-written
 pub written-of-read : (line : List ℕ) (call : Call) → readLine line ≡ Said call → digitsOf (bytesOf call) ≡ line
 written-of-read = round-trip.written-of-read
 
+pub fits-of-read : (line : List ℕ) (call : Call) → readLine line ≡ Said call → FieldsFit call
+fits-of-read = round-trip.fits-of-read
+
 -- ---- demand 3
 -- From an opened desk, after any calls in any order: the owner's counter is 0 if and only if no other site holds the pointer and no message in flight names it.
 pub counter-zero-iff-quiet : {d : Desk} → Reached flat d → (p : ℕ) → p < flat .pointers d → (flat .counter d (flat .owner d p) p ≡ 0) ↔ Quiet flat d p

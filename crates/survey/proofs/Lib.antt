@@ -7,5 +7,4 @@ pub mod ShareRange
 pub mod GridLaws
 pub mod SheetLaws
 pub mod SheetColumns
-pub mod NegativeShare
 pub mod NoTwoAnswers
