@@ -1,4 +1,5 @@
 -- What the proofs of the functions cite.
+pub mod HeldLaws
 pub mod FrontLaws
 pub mod EffectLaws
 pub mod ReceiveLaws

@@ -4,7 +4,7 @@ use Rattle.model.specs.declared.Answer.{Answer}
 use Rattle.model.specs.Answers.{Outcome}
 use Rattle.model.specs.Tables.{Desk}
 use Rattle.pointer_desk.specs.declared.answer.DeskAnswer.{DeskAnswer}
-use Rattle.pointer_desk.specs.Boundary.{Given, given, flatAnswer}
+use Rattle.pointer_desk.specs.Boundary.{given, flatAnswer}
 
 -- the call's equation, in C's form
 pub in-c : {a : Answer} {r : DeskAnswer} {d : Desk} {o : Outcome Desk} → r ≡ flatAnswer a → record { answer = a; desk = d } ≡ o → record { answer = r; desk = d } ≡ given o

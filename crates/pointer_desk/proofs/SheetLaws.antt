@@ -1,25 +1,40 @@
 -- A sheet written row by row.
-use Prim.Native.Nat.{ℕ, _+_, _<_}
-use mathlib.Core.Path.{_≡_, refl, sym, _∙_}
-use mathlib.Core.List.{List}
+use Prim.Native.Nat.{ℕ, _+_, _*_, _/_, _%_, _<_}
+use mathlib.Core.Path.{_≡_, refl, sym, ap₂, _∙_}
+use mathlib.Core.List.{List, []}
 use native.Mathlib.Omega.{arith}
-use lib.ListN.{length, set}
+use lib.ListN.{length, getD, take, set}
+use lib.Seq.{take-all}
 use borrow.Author.Tests.{ne-eqb}
 use Rattle.model.specs.Tables.{Desk}
 use Rattle.model.specs.Flat.{flat}
 use Rattle.model.specs.Survey.{sheetNumber, sheet}
 use Rattle.model.proofs.QuestionLaws.{length-up-to, up-to-at}
-use Rattle.tables.proofs.FillLaws.{Filled, filled-none, filled-more}
-use Rattle.pointer_desk.specs.Boundary.{countOf, rowByRow, Sheet, sheetGiven}
+use Rattle.tables.proofs.FillLaws.{Filled, filled-more}
+use Rattle.pointer_desk.specs.Boundary.{countOf, rowByRow, sheetGiven}
 
-pub sheet-none : (rows : List (List ℕ)) (before : List ℕ) → length before ≡ 192 → Filled (rowByRow rows) before before 0
-unfolding rowByRow
-sheet-none rows before e = filled-none (rowByRow rows) before (length-up-to 192 (countOf rows) ∙ sym e)
+module _ (rows : List (List ℕ)) where
+  -- the rows before one are written
+  pub sheet-from : (before : List ℕ) (k : ℕ) → length before ≡ 192 → take k before ≡ take k (rowByRow rows) → Filled (rowByRow rows) before before k
+  unfolding rowByRow
+  sheet-from before k e front = record { long = refl; whole = length-up-to 192 (countOf rows) ∙ sym e; front = front }
 
-pub sheet-more : (rows : List (List ℕ)) (before later : List ℕ) (k : ℕ) → k < 192 → k < length later → Filled (rowByRow rows) before later k
-    → Filled (rowByRow rows) before (set later k (countOf rows k)) (k + 1)
-unfolding rowByRow
-sheet-more rows before later k low l f = filled-more k (countOf rows k) 0 l (sym (up-to-at 192 (countOf rows) 0 k low)) f
+  -- a count more, from its row and column
+  pub sheet-more : {before later : List ℕ} (row c : ℕ) → row < 3 → c < 64 → row * 64 + c < length later → Filled (rowByRow rows) before later (row * 64 + c)
+      → Filled (rowByRow rows) before (set later (row * 64 + c) (getD (getD rows row []) c 0)) (row * 64 + (c + 1))
+  unfolding rowByRow
+  sheet-more row c lr lc l f =
+      let k = row * 64 + c in
+      let next : k + 1 ≡ row * 64 + (c + 1) = omega arith in
+      let its-row : k / 64 ≡ row = omega arith in
+      let its-column : k % 64 ≡ c = omega arith in
+      rw next at (filled-more k (getD (getD rows row []) c 0) 0 l
+      (sym (ap₂ (λ (x y : ℕ). getD (getD rows x []) y 0) its-row its-column) ∙ sym (up-to-at 192 (countOf rows) 0 k (omega arith))) f)
+
+  -- all rows are written
+  pub sheet-whole : {later : List ℕ} → length later ≡ 192 → take 192 later ≡ take 192 (rowByRow rows) → later ≡ rowByRow rows
+  unfolding rowByRow
+  sheet-whole {later} e all = sym (take-all 192 later (omega arith)) ∙ all ∙ take-all 192 (rowByRow rows) (omega (arith, length-up-to 192 (countOf rows)))
 
 -- ---- what the call gives: another length, or 192 counts
 pub sheet-kept : (d : Desk) (p : ℕ) (counts : List ℕ) → (length counts ≡ 192 → ⊥) → record { number = 1; counts = counts } ≡ sheetGiven d p counts

@@ -1,9 +1,10 @@
 // Share and sheet (Document 01, Share and sheet).
 use survey::share::share;
-use survey::sheet::sheet as sheet_rows;
+use survey::sheet::sheet_by;
 use survey::sheet::sheet_number;
 ghost use mathlib.Core.Path.{_≡_};
-ghost use lib.ListN.{length};
+ghost use Prim.Native.Nat.{_+_, _*_, _<_};
+ghost use lib.ListN.{length, take};
 ghost use Rattle.model.specs.Tables.{lent};
 ghost use Rattle.model.specs.Survey.{share as shareOf};
 ghost use Rattle.model.specs.Flat.{flat};
@@ -36,15 +37,18 @@ pub extern "C" fn desk_share(
     }
 }
 
-// The rows of a sheet, one after another.
-fn write_rows(rows: [[u32; 64]; 3], sheet: &mut [u32])
-    requires { ⌜ length (now sheet) ≡ 192 ⌝ }
-    ensures { λ _. ⌜ now (sheet .exit) ≡ rowByRow rows ⌝ }
+// A row of a sheet, after the rows before it.
+fn write_row(rows: &[[u32; 64]; 3], row: usize, sheet: &mut [u32])
+    requires { ⌜ (row < 3) × (length (now sheet) ≡ 192) ⌝ }
+    requires { ⌜ take (row * 64) (now sheet) ≡ take (row * 64) (rowByRow (now rows)) ⌝ }
+    ensures { λ _. ⌜ length (now (sheet .exit)) ≡ 192 ⌝ }
+    ensures { λ _. ⌜ take (row * 64 + 64) (now (sheet .exit)) ≡ take (row * 64 + 64) (rowByRow (now (rows .entry))) ⌝ }
 {
-    let mut k = 0;
-    while k < 192 {
-        sheet[k] = rows[k / 64][k % 64];
-        k += 1;
+    let at = row * 64;
+    let mut c = 0;
+    while c < 64 {
+        sheet[at + c] = rows[row][c];
+        c += 1;
     }
 }
 
@@ -65,7 +69,10 @@ pub extern "C" fn desk_sheet(
     if sheet.len() != 192 {
         return 1;
     }
-    let rows = sheet_rows(sites, owners, send, receive, pool, pointer);
-    write_rows(rows, sheet);
-    sheet_number(sites, owners, send, receive, pool, pointer)
+    let number = sheet_number(sites, owners, send, receive, pool, pointer);
+    let rows = sheet_by(number, sites, owners, send, receive, pool, pointer);
+    write_row(&rows, 0, sheet);
+    write_row(&rows, 1, sheet);
+    write_row(&rows, 2, sheet);
+    number
 }

@@ -2,8 +2,8 @@
 use Prim.Native.Nat.{ℕ, _+_, _-_, _≤_, _<_}
 use mathlib.Core.Path.{_≡_, refl, sym, _∙_}
 use mathlib.Core.Logic.{_≢_}
-use mathlib.Core.Bool.{_&&_, not}
-use mathlib.Core.List.{[]}
+use mathlib.Core.Bool.{false, _&&_, not}
+use mathlib.Core.List.{List, []}
 use native.Mathlib.Omega.{arith}
 use lib.Dec.{eqb}
 use lib.ListN.{getD, set}
@@ -18,9 +18,10 @@ use Rattle.model.specs.Laws.{Inside, Laws}
 use Rattle.model.specs.Survey.{column, entered, blankSheet}
 use Rattle.model.proofs.TestLaws.{and-false, at-most-1}
 use Rattle.model.proofs.QuestionLaws.{total-more, total-most}
+use Rattle.tables.proofs.PointerLaws.{ofPointer, other-fields}
 use Rattle.survey.specs.FirstSlots.{weighed, amount, entries}
 use Rattle.survey.proofs.CountLaws.{counted-more}
-use Rattle.survey.proofs.GridLaws.{grid-at, grid-raised}
+use Rattle.survey.proofs.GridLaws.{up-to-alike, grid-at, grid-raised}
 
 -- ---- one message is entered at its own place alone
 own-place : (p : ℕ) (m : Posted) → entered p (kindOf m - 1 + 1) (column m) m ≡ amount p m
@@ -34,6 +35,13 @@ other-row p row site m apart = rw (ne-eqb (kindOf m) (row + 1) (λ e. apart (ome
 
 pub other-column : (p kind site : ℕ) (m : Posted) → site ≢ column m → entered p kind site m ≡ 0
 other-column p kind site m apart = rw (ne-eqb (column m) site (λ e. apart (sym e)), and-false (eqb (kindOf m) kind))
+
+-- a message of another pointer is entered nowhere
+not-entered : (p row site : ℕ) (m : Posted) → ofPointer p m ≡ false → entered p (row + 1) site m ≡ 0
+not-entered p row site (Copy a b q) e = rw (other-fields (eqb 1 (row + 1)) (eqb a site) e)
+not-entered p row site (Dec a b q) e = rw (other-fields (eqb 2 (row + 1)) (eqb a site) e)
+not-entered p row site (IncDec a b c q) e = rw (other-fields (eqb 3 (row + 1)) (eqb a site) e)
+not-entered p row site Nothing e = rw (ne-eqb 0 (row + 1) (λ z. omega arith))
 
 pub amount-at-most-1 : (p : ℕ) (m : Posted) → amount p m ≤ 1
 amount-at-most-1 p m = at-most-1 (not (isNothing m) && eqb (pointerOf m) p)
@@ -68,9 +76,16 @@ module _ (message : ℕ → Posted) (p : ℕ) where
   entry-at n row site lr ls = grid-at 3 64 (entry n) row site lr ls
 
   -- at most one for each slot
-  pub entry-at-most : (n row site : ℕ) → row < 3 → site < 64 → getD (getD (entries message p n) row []) site 0 ≤ n
-  entry-at-most n row site lr ls =
-      rw (entry-at n row site lr ls) (total-most (λ slot. entered p (row + 1) site (message slot)) n (λ slot. at-most-1 (eqb (kindOf (message slot)) (row + 1) && eqb (column (message slot)) site && eqb (pointerOf (message slot)) p)))
+  pub entry-at-most : {rows : List (List ℕ)} (n row site : ℕ) → rows ≡ entries message p n → row < 3 → site < 64 → getD (getD rows row []) site 0 ≤ n
+  entry-at-most n row site e lr ls =
+      rw (e, entry-at n row site lr ls) (total-most (λ slot. entered p (row + 1) site (message slot)) n (λ slot. at-most-1 (eqb (kindOf (message slot)) (row + 1) && eqb (column (message slot)) site && eqb (pointerOf (message slot)) p)))
+
+  -- one slot more, of another pointer
+  pub entries-kept : (i : ℕ) → ofPointer p (message i) ≡ false → entries message p i ≡ entries message p (i + 1)
+  entries-kept i other =
+      up-to-alike [] 3 (λ row. upTo 64 (entry i row)) (λ row. upTo 64 (entry (i + 1) row))
+      (λ row lr. up-to-alike 0 64 (entry i row) (entry (i + 1) row)
+      (λ site ls. omega (arith, total-more (λ slot. entered p (row + 1) site (message slot)) i, not-entered p row site (message i) other)))
 
   -- one slot more: what its message counts is added in its message's row and column
   pub entries-more : (i row site w : ℕ) → row ≡ kindOf (message i) - 1 → site ≡ column (message i) → w ≡ amount p (message i) → site < 64

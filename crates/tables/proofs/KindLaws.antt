@@ -1,7 +1,6 @@
 -- A kind that is none of 1, 2 and 3 has no message.
 use Prim.Native.Nat.{ℕ, zero, suc}
 use mathlib.Core.Path.{_≡_, refl}
-use Rattle.model.specs.declared.Posted.{Posted}
 use Rattle.model.specs.declared.Posted.the-variants.{Nothing}
 use Rattle.model.specs.Messages.{messageOf}
 

@@ -1,74 +1,81 @@
--- What is counted so far is the count over the slots so far.
-use Prim.Native.Nat.{_+_, _-_, _≤_}
+-- Four slots a turn: what is counted so far is the count over the slots so far.
+use Prim.Native.Nat.{_≤_, _-_, _*_, _+_, _/_}
 use mathlib.Core.Path.{_≡_, refl}
 use native.Mathlib.Omega.{arith}
-use borrow.Author.Needs.{needs}
+use lib.ListN.{length}
 use Rattle.model.specs.Questions.{total}
-use Rattle.model.specs.Survey.{copies, decs, incDecs}
-use Rattle.model.specs.Tables.{slotsOf, messageAt}
-use Rattle.survey.specs.FirstSlots.{weighed}
-use Rattle.survey.proofs.CountLaws.{counted-more, both-counted-more, plus-at-most, minus-at-most}
+use Rattle.model.specs.Tables.{messageAt}
+use Rattle.survey.specs.FirstSlots.{plusOf, minusOf}
 use Rattle.survey.proofs.share.count.Statement.{statement}
 use Rattle.survey.proofs.share.count.Tie as tie
 
 abbrev Inv-loop : tie.InvT-loop
-Inv-loop pool site owner p n more₀ less₀ i₀ more less i =
-    (i ≤ n)
-    × (more ≡ weighed (messageAt pool) i (decs site owner p) + weighed (messageAt pool) i (copies owner site p))
-    × (less ≡ weighed (messageAt pool) i (incDecs site owner p))
+Inv-loop pool site owner p turns counts₀ t₀ counts t =
+    (t ≤ turns)
+    × (counts .plus ≡ plusOf (messageAt pool) (t * 4) site owner p)
+    × (counts .minus ≡ minusOf (messageAt pool) (t * 4) site owner p)
 
 abbrev μ-loop : tie.MeasureT-loop
-μ-loop pool site owner p n more₀ less₀ i₀ more less i = n - i
-
-abbrev at-loop : tie.After-plus Inv-loop μ-loop → tie.At-loop Inv-loop μ-loop
-at-loop c = c .before .before .before
-
--- one slot more
-more-counted : (c : tie.After-plus Inv-loop μ-loop) → let a = at-loop c .before .before .args in let l = at-loop c .loop in
-    l .more + c .plus .result ≡ weighed (messageAt (a .pool .now)) (l .i + 1) (decs (a .site) (a .owner) (a .p)) + weighed (messageAt (a .pool .now)) (l .i + 1) (copies (a .owner) (a .site) (a .p))
-more-counted c = both-counted-more _ _ (at-loop c .loop .i) (at-loop c .loop .inv .1) (rw (c .before .read-slot .ensures) at (c .plus .ensures))
-
-less-counted : (c : tie.After-minus Inv-loop μ-loop) → let a = at-loop (c .before) .before .before .args in let l = at-loop (c .before) .loop in
-    l .less + c .minus .result ≡ weighed (messageAt (a .pool .now)) (l .i + 1) (incDecs (a .site) (a .owner) (a .p))
-less-counted c = counted-more _ (at-loop (c .before) .loop .i) (at-loop (c .before) .loop .inv .2) (rw (c .before .before .read-slot .ensures) at (c .minus .ensures))
+μ-loop pool site owner p turns counts₀ t₀ counts t = turns - t
 
 loop-holds : tie.Need-loop-holds Inv-loop μ-loop
 unfolding total
 loop-holds c = (omega arith, refl, refl)
 
-read-slot-requires : tie.Need-read-slot-requires Inv-loop μ-loop
-read-slot-requires c κs = omega arith
+mul-i : tie.Need-mul-i Inv-loop μ-loop
+mul-i c = omega arith
 
-plus-requires : tie.Need-plus-requires Inv-loop μ-loop
-plus-requires c κs = search needs
+with-slot-requires : tie.Need-with-slot-requires Inv-loop μ-loop
+with-slot-requires c κs = ((omega arith, omega arith), (c .before .loop .inv .1, c .before .loop .inv .2))
 
-add-more : tie.Need-add-more Inv-loop μ-loop
-add-more c =
-    let a = at-loop c .before .before .args in
-    omega (arith, more-counted c, plus-at-most (messageAt (a .pool .now)) (at-loop c .loop .i + 1) (a .site) (a .owner) (a .p))
+add-with-slot : tie.Need-add-with-slot Inv-loop μ-loop
+add-with-slot c = omega arith
 
-minus-requires : tie.Need-minus-requires Inv-loop μ-loop
-minus-requires c κs = search needs
+with-slot-requires-2 : tie.Need-with-slot-requires-2 Inv-loop μ-loop
+with-slot-requires-2 c κs = ((omega arith, omega arith), (c .with-slot .ensures .0, c .with-slot .ensures .1))
 
-add-less : tie.Need-add-less Inv-loop μ-loop
-add-less c =
-    let a = at-loop (c .before) .before .before .args in
-    omega (arith, less-counted c, minus-at-most (messageAt (a .pool .now)) (at-loop (c .before) .loop .i + 1) (a .site) (a .owner) (a .p))
+add-with-slot-2 : tie.Need-add-with-slot-2 Inv-loop μ-loop
+add-with-slot-2 c = omega arith
 
-add-i : tie.Need-add-i Inv-loop μ-loop
-add-i c = omega arith
+with-slot-requires-3 : tie.Need-with-slot-requires-3 Inv-loop μ-loop
+with-slot-requires-3 c κs =
+    let t = c .before .before .before .loop .t in
+    let e : t * 4 + 1 + 1 ≡ t * 4 + 2 = omega arith in
+    ((omega arith, omega arith), (rw e at (c .with-slot2 .ensures .0), rw e at (c .with-slot2 .ensures .1)))
+
+add-with-slot-3 : tie.Need-add-with-slot-3 Inv-loop μ-loop
+add-with-slot-3 c = omega arith
+
+with-slot-requires-4 : tie.Need-with-slot-requires-4 Inv-loop μ-loop
+with-slot-requires-4 c κs =
+    let t = c .before .before .before .before .loop .t in
+    let e : t * 4 + 2 + 1 ≡ t * 4 + 3 = omega arith in
+    ((omega arith, omega arith), (rw e at (c .with-slot3 .ensures .0), rw e at (c .with-slot3 .ensures .1)))
+
+add-t : tie.Need-add-t Inv-loop μ-loop
+add-t c = omega arith
 
 loop-less : tie.Need-loop-less Inv-loop μ-loop
 loop-less c = omega arith
 
 loop-again : tie.Need-loop-again Inv-loop μ-loop
-loop-again c = (omega arith, more-counted (c .before), less-counted c)
+loop-again c =
+    let t = c .before .before .before .before .before .loop .t in
+    let e : t * 4 + 3 + 1 ≡ (t + 1) * 4 = omega arith in
+    (omega arith, rw e at (c .with-slot4 .ensures .0), rw e at (c .with-slot4 .ensures .1))
+
+mul-count-rest : tie.Need-mul-count-rest Inv-loop μ-loop
+mul-count-rest c = omega arith
+
+count-rest-requires : tie.Need-count-rest-requires Inv-loop μ-loop
+count-rest-requires c κs =
+    let l = c .before .loop in
+    let a = c .before .before .before .args in
+    let e : l .t ≡ length (a .pool .now) / 20 = omega arith in
+    ((omega arith, omega arith), (rw e at (l .inv .1), rw e at (l .inv .2)))
 
 returns : tie.Need-returns Inv-loop μ-loop
-returns c =
-    let l = c .before .loop in
-    let e : l .i ≡ slotsOf (c .before .before .before .args .pool .now) = omega arith in
-    (rw e at (l .inv .1), rw e at (l .inv .2))
+returns c = c .count-rest .ensures
 
 pub count-spec : {M : Type 1} → statement M
 count-spec =
@@ -77,12 +84,17 @@ count-spec =
     Inv-loop
     μ-loop
     loop-holds
-    read-slot-requires
-    plus-requires
-    add-more
-    minus-requires
-    add-less
-    add-i
+    mul-i
+    with-slot-requires
+    add-with-slot
+    with-slot-requires-2
+    add-with-slot-2
+    with-slot-requires-3
+    add-with-slot-3
+    with-slot-requires-4
+    add-t
     loop-less
     loop-again
+    mul-count-rest
+    count-rest-requires
     returns)

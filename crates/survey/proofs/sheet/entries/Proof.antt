@@ -1,30 +1,20 @@
--- The rows so far are the sheet of the slots so far.
-use Prim.Native.Nat.{_-_, _≤_, _<_}
+-- Four slots a turn: the rows so far are the sheet of the slots so far.
+use Prim.Native.Nat.{_+_, _-_, _*_, _/_, _≤_}
 use mathlib.Core.Path.{_≡_, _∙_}
-use mathlib.Core.List.{[]}
 use native.Mathlib.Omega.{arith}
-use lib.ListN.{getD}
+use lib.ListN.{length}
 use borrow.Author.Needs.{needs}
-use Rattle.model.specs.Tables.{slotsOf, messageAt}
+use Rattle.model.specs.Tables.{messageAt}
 use Rattle.survey.specs.FirstSlots.{entries as entriesOf}
-use Rattle.survey.proofs.SheetLaws.{amount-at-most-1, no-entries, entry-at-most, entries-more, row-below-3}
+use Rattle.survey.proofs.SheetLaws.{no-entries}
 use Rattle.survey.proofs.sheet.entries.Statement.{statement}
 use Rattle.survey.proofs.sheet.entries.Tie as tie
 
 abbrev Inv-loop : tie.InvT-loop
-Inv-loop pool p n rows₀ i₀ rows i = (i ≤ n) × (rows ≡ entriesOf (messageAt pool) p i)
+Inv-loop pool p turns rows₀ t₀ rows t = (t ≤ turns) × (rows ≡ entriesOf (messageAt pool) p (t * 4))
 
 abbrev μ-loop : tie.MeasureT-loop
-μ-loop pool p n rows₀ i₀ rows i = n - i
-
--- the row and the column of the slot's message
-row-below : (c : tie.After-row Inv-loop μ-loop) → c .row .result < 3
-row-below c = rw (c .row .ensures) (row-below-3 (c .before .read-slot .result))
-
-column-below : (c : tie.After-column Inv-loop μ-loop) → c .column .result < 64
-column-below c =
-    let l = c .before .before .before in
-    rw (c .column .ensures, c .before .before .read-slot .ensures) (l .before .before .before .before .pre .1 (l .before .loop .i) (l .loop-test .taken))
+μ-loop pool p turns rows₀ t₀ rows t = turns - t
 
 blank-requires : tie.Need-blank-requires Inv-loop μ-loop
 blank-requires c κs = search needs
@@ -32,72 +22,68 @@ blank-requires c κs = search needs
 loop-holds : tie.Need-loop-holds Inv-loop μ-loop
 loop-holds c = (omega arith, c .blank .ensures ∙ no-entries (messageAt (c .before .before .args .pool .now)) (c .before .before .args .p))
 
-read-slot-requires : tie.Need-read-slot-requires Inv-loop μ-loop
-read-slot-requires c κs = omega arith
+mul-i : tie.Need-mul-i Inv-loop μ-loop
+mul-i c = omega arith
 
-row-requires : tie.Need-row-requires Inv-loop μ-loop
-row-requires c κs = search needs
+enter-requires : tie.Need-enter-requires Inv-loop μ-loop
+enter-requires c κs =
+    let t = c .before .before .loop .t in
+    let start = c .before .before .before .before .before in
+    ((omega arith, omega arith, start .pre .1 (t * 4) (omega arith)), c .before .before .loop .inv .1)
 
-column-requires : tie.Need-column-requires Inv-loop μ-loop
-column-requires c κs = search needs
+add-enter : tie.Need-add-enter Inv-loop μ-loop
+add-enter c = omega arith
 
-cast-site : tie.Need-cast-site Inv-loop μ-loop
-cast-site c = omega (arith, column-below c)
+enter-requires-2 : tie.Need-enter-requires-2 Inv-loop μ-loop
+enter-requires-2 c κs =
+    let t = c .before .before .before .before .loop .t in
+    let start = c .before .before .before .before .before .before .before in
+    ((omega arith, omega arith, start .pre .1 (t * 4 + 1) (omega arith)), c .before .enter .ensures)
 
-amount-requires : tie.Need-amount-requires Inv-loop μ-loop
-amount-requires c κs = search needs
+add-enter-2 : tie.Need-add-enter-2 Inv-loop μ-loop
+add-enter-2 c = omega arith
 
-mul-rows : tie.Need-mul-rows Inv-loop μ-loop
-mul-rows c = omega (arith, row-below (c .before .before))
+enter-requires-3 : tie.Need-enter-requires-3 Inv-loop μ-loop
+enter-requires-3 c κs =
+    let t = c .before .before .before .before .before .before .loop .t in
+    let start = c .before .before .before .before .before .before .before .before .before in
+    let e : t * 4 + 1 + 1 ≡ t * 4 + 2 = omega arith in
+    ((omega arith, omega arith, start .pre .1 (t * 4 + 2) (omega arith)), rw e at (c .before .enter2 .ensures))
 
-mul-rows-2 : tie.Need-mul-rows-2 Inv-loop μ-loop
-mul-rows-2 c = omega (arith, column-below (c .before))
+add-enter-3 : tie.Need-add-enter-3 Inv-loop μ-loop
+add-enter-3 c = omega arith
 
-index-1-rows : tie.Need-index-1-rows Inv-loop μ-loop
-index-1-rows c = row-below (c .before .before)
+enter-requires-4 : tie.Need-enter-requires-4 Inv-loop μ-loop
+enter-requires-4 c κs =
+    let t = c .before .before .before .before .before .before .before .before .loop .t in
+    let start = c .before .before .before .before .before .before .before .before .before .before .before in
+    let e : t * 4 + 2 + 1 ≡ t * 4 + 3 = omega arith in
+    ((omega arith, omega arith, start .pre .1 (t * 4 + 3) (omega arith)), rw e at (c .before .enter3 .ensures))
 
-index-2-rows : tie.Need-index-2-rows Inv-loop μ-loop
-index-2-rows c = column-below (c .before)
-
-add-rows : tie.Need-add-rows Inv-loop μ-loop
-add-rows c =
-    let row = c .before .before .before in
-    let l = row .before .before .before in
-    let a = l .before .before .before .args in
-    let entry : getD (getD (l .loop .rows) (row .row .result) []) (c .before .before .column .result) 0 ≤ l .loop .i =
-    rw (l .loop .inv .1) (entry-at-most (messageAt (a .pool .now)) (a .p) (l .loop .i) _ _ (row-below row) (column-below (c .before .before))) in
-    let counted : c .before .amount .result ≤ 1 = rw (c .before .amount .ensures) (amount-at-most-1 (a .p) (row .before .read-slot .result)) in
-    omega arith
-
-index-1-rows-2 : tie.Need-index-1-rows-2 Inv-loop μ-loop
-index-1-rows-2 c = row-below (c .before .before .before)
-
-index-2-rows-2 : tie.Need-index-2-rows-2 Inv-loop μ-loop
-index-2-rows-2 c = column-below (c .before .before)
-
-add-i : tie.Need-add-i Inv-loop μ-loop
-add-i c = omega arith
+add-t : tie.Need-add-t Inv-loop μ-loop
+add-t c = omega arith
 
 loop-less : tie.Need-loop-less Inv-loop μ-loop
 loop-less c = omega arith
 
 loop-again : tie.Need-loop-again Inv-loop μ-loop
 loop-again c =
-    let row = c .before .before .before in
-    let l = row .before .before .before in
-    let a = l .before .before .before .args in
-    let message = row .before .read-slot .ensures in (
-      omega arith,
-      rw (l .loop .inv .1)
-          (entries-more (messageAt (a .pool .now)) (a .p) (l .loop .i) _ _ _ (rw message at (row .row .ensures)) (rw message at (c .before .before .column .ensures)) (rw message at (c .before .amount .ensures))
-          (column-below (c .before .before))),
-    )
+    let t = c .before .before .before .before .before .before .before .before .before .loop .t in
+    let e : t * 4 + 3 + 1 ≡ (t + 1) * 4 = omega arith in
+    (omega arith, rw e at (c .enter4 .ensures))
+
+mul-enter-rest : tie.Need-mul-enter-rest Inv-loop μ-loop
+mul-enter-rest c = omega arith
+
+enter-rest-requires : tie.Need-enter-rest-requires Inv-loop μ-loop
+enter-rest-requires c κs =
+    let l = c .before .before .loop in
+    let start = c .before .before .before .before .before in
+    let e : l .t ≡ length (start .args .pool .now) / 20 = omega arith in
+    ((omega arith, omega arith), (start .pre .1, rw e at (l .inv .1)))
 
 returns : tie.Need-returns Inv-loop μ-loop
-returns c =
-    let l = c .before .loop in
-    let e : l .i ≡ slotsOf (c .before .before .before .before .args .pool .now) = omega arith in
-    rw e at (l .inv .1)
+returns c = c .enter-rest .ensures
 
 pub entries-spec : {M : Type 1} → statement M
 entries-spec =
@@ -107,19 +93,17 @@ entries-spec =
     μ-loop
     blank-requires
     loop-holds
-    read-slot-requires
-    row-requires
-    column-requires
-    cast-site
-    amount-requires
-    mul-rows
-    mul-rows-2
-    index-1-rows
-    index-2-rows
-    add-rows
-    index-1-rows-2
-    index-2-rows-2
-    add-i
+    mul-i
+    enter-requires
+    add-enter
+    enter-requires-2
+    add-enter-2
+    enter-requires-3
+    add-enter-3
+    enter-requires-4
+    add-t
     loop-less
     loop-again
+    mul-enter-rest
+    enter-rest-requires
     returns)
