@@ -38,5 +38,6 @@ pub mod TheDesk
 pub mod LineTable
 pub mod Fourteen
 pub mod RefusedLines
+pub mod Openings
 pub mod SurveyCases
 pub mod Edges

@@ -130,8 +130,8 @@ pub fn is_inc_dec(a: u8, b: u8, p: u8, m: Posted) -> bool
         Posted::IncDec {
             from,
             to,
+            third: _,
             pointer,
-            ..
         } => (from == a) & (to == b) & (pointer == p),
         Posted::Nothing => false,
     }
