@@ -7,18 +7,18 @@ use lib.Bits.{bitAnd, bitOr, and-block, and-high}
 use lib.Dec.{eqb, leb, ltb}
 use borrow.Author.Tests.{eqb-true, eq-eqb, leb-true, le-leb, ltb-true, lt-ltb}
 use Rattle.model.proofs.TestLaws.{and-both}
-use Rattle.tables.specs.Word.{packed}
+use Rattle.model.specs.Questions.{every}
+use Rattle.model.proofs.QuestionLaws.{every-more}
+use Rattle.tables.specs.Word.{packed, clear, slotMask}
 use Rattle.tables.proofs.BitLaws.{and-over-or, or-zero}
 
--- the top bit of each field, and the kind's bits above 3
-abbrev pub mask : ℕ
-mask = 1101667533052
+-- ---- what is seen so far
+pub clear-or : (mask a b : ℕ) → clear mask (bitOr a b) ≡ (clear mask a && clear mask b)
+clear-or mask a b = ap (λ (n : ℕ). eqb n 0) (and-over-or a b mask) ∙ or-zero (bitAnd a mask) (bitAnd b mask)
 
-abbrev pub clear : ℕ → Bool
-clear a = eqb (bitAnd a mask) 0
-
-pub clear-or : (a b : ℕ) → clear (bitOr a b) ≡ (clear a && clear b)
-clear-or a b = ap (λ (n : ℕ). eqb n 0) (and-over-or a b mask) ∙ or-zero (bitAnd a mask) (bitAnd b mask)
+-- one more is seen
+pub seen-more : (mask : ℕ) (P : ℕ → Bool) (i seen x : ℕ) → clear mask seen ≡ every i P → clear mask x ≡ P i → clear mask (bitOr seen x) ≡ every (i + 1) P
+seen-more mask P i seen x before e = clear-or mask seen x ∙ ap (λ (b : Bool). clear mask seen && b) e ∙ every-more P i before
 
 -- ---- five fields below limits: of the kind 4, of from and to a, of third b, of the pointer c
 abbrev pub fieldsBelow : ℕ → ℕ → ℕ → ℕ → ℕ → ℕ → ℕ → ℕ → Bool
@@ -58,7 +58,7 @@ no-field : (p third to from kind : ℕ) → (((p * 256 * 256 + third * 128) * 25
 no-field p third to from kind e = (omega arith, omega arith, omega arith, omega arith, omega arith)
 
 module _ (kind from to third p : ℕ) (k : kind < 256) (f : from < 256) (t : to < 256) (h : third < 256) where
-  masked : bitAnd (packed kind from to third p) mask
+  masked : bitAnd (packed kind from to third p) slotMask
       ≡ (((p / 256 % 2 * 256 * 256 + third / 128 % 2 * 128) * 256 + to / 128 % 2 * 128) * 256 + from / 128 % 2 * 128) * 256 + kind / 4 % 64 * 4
   masked =
       let e : packed kind from to third p ≡ (((p * 256 + third) * 256 + to) * 256 + from) * 256 + kind = omega arith in
@@ -66,11 +66,11 @@ module _ (kind from to third p : ℕ) (k : kind < 256) (f : from < 256) (t : to 
       let with-to = masked-block (p * 256 + third) 65664 to 128 t (omega arith) with-third (and-high to 1 7) in
       let with-from = masked-block ((p * 256 + third) * 256 + to) 16810112 from 128 f (omega arith) with-to (and-high from 1 7) in
       let with-kind = masked-block (((p * 256 + third) * 256 + to) * 256 + from) 4303388800 kind 252 k (omega arith) with-from (and-high kind 6 2) in
-      ap (λ (n : ℕ). bitAnd n mask) e ∙ with-kind
+      ap (λ (n : ℕ). bitAnd n slotMask) e ∙ with-kind
 
-  pub clear-below : p < 512 → clear (packed kind from to third p) ≡ true → Below 128 128 256 kind from to third p
+  pub clear-below : p < 512 → clear slotMask (packed kind from to third p) ≡ true → Below 128 128 256 kind from to third p
   clear-below l e =
-      let z = no-field (p / 256 % 2) (third / 128 % 2) (to / 128 % 2) (from / 128 % 2) (kind / 4 % 64) (sym masked ∙ eqb-true (bitAnd (packed kind from to third p) mask) 0 e) in
+      let z = no-field (p / 256 % 2) (third / 128 % 2) (to / 128 % 2) (from / 128 % 2) (kind / 4 % 64) (sym masked ∙ eqb-true (bitAnd (packed kind from to third p) slotMask) 0 e) in
       record {
         low-kind = omega (arith, z .4);
         low-from = omega (arith, z .3);
@@ -79,5 +79,5 @@ module _ (kind from to third p : ℕ) (k : kind < 256) (f : from < 256) (t : to 
         low-pointer = omega (arith, z .0);
       }
 
-pub below-clear : (kind from to third p : ℕ) → Below 128 128 256 kind from to third p → clear (packed kind from to third p) ≡ true
+pub below-clear : (kind from to third p : ℕ) → Below 128 128 256 kind from to third p → clear slotMask (packed kind from to third p) ≡ true
 below-clear kind from to third p l = eq-eqb _ 0 (masked kind from to third p (omega arith) (omega arith) (omega arith) (omega arith) ∙ omega arith)
