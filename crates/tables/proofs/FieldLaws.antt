@@ -17,8 +17,19 @@ pub clear-or : (mask a b : ℕ) → clear mask (bitOr a b) ≡ (clear mask a && 
 clear-or mask a b = ap (λ (n : ℕ). eqb n 0) (and-over-or a b mask) ∙ or-zero (bitAnd a mask) (bitAnd b mask)
 
 -- one more is seen
-pub seen-more : (mask : ℕ) (P : ℕ → Bool) (i seen x : ℕ) → clear mask seen ≡ every i P → clear mask x ≡ P i → clear mask (bitOr seen x) ≡ every (i + 1) P
-seen-more mask P i seen x before e = clear-or mask seen x ∙ ap (λ (b : Bool). clear mask seen && b) e ∙ every-more P i before
+pub seen-more : (mask : ℕ) (P : ℕ → Bool) (i next seen x : ℕ) → i + 1 ≡ next → clear mask seen ≡ every i P → clear mask x ≡ P i → clear mask (bitOr seen x) ≡ every next P
+seen-more mask P i next seen x q before e =
+    clear-or mask seen x ∙ ap (λ (b : Bool). clear mask seen && b) e ∙ every-more P i before ∙ ap (λ (n : ℕ). every n P) q
+
+-- four more are seen
+pub seen-four : (mask : ℕ) (P : ℕ → Bool) (i seen a b c d : ℕ) → clear mask seen ≡ every (i * 4) P
+    → clear mask a ≡ P (i * 4) → clear mask b ≡ P (i * 4 + 1) → clear mask c ≡ P (i * 4 + 2) → clear mask d ≡ P (i * 4 + 3)
+    → clear mask (bitOr (bitOr (bitOr (bitOr seen a) b) c) d) ≡ every ((i + 1) * 4) P
+seen-four mask P i seen a b c d before ea eb ec ed =
+    let one = seen-more mask P (i * 4) (i * 4 + 1) seen a (omega arith) before ea in
+    let two = seen-more mask P (i * 4 + 1) (i * 4 + 2) (bitOr seen a) b (omega arith) one eb in
+    let three = seen-more mask P (i * 4 + 2) (i * 4 + 3) (bitOr (bitOr seen a) b) c (omega arith) two ec in
+    seen-more mask P (i * 4 + 3) ((i + 1) * 4) (bitOr (bitOr (bitOr seen a) b) c) d (omega arith) three ed
 
 -- ---- five fields below limits: of the kind 4, of from and to a, of third b, of the pointer c
 abbrev pub fieldsBelow : ℕ → ℕ → ℕ → ℕ → ℕ → ℕ → ℕ → ℕ → Bool

@@ -106,6 +106,6 @@ module _ (pool : List ℕ) (bytes : (j : ℕ) → Fits w8 (getD pool j 0)) where
       → clear slotMask seen ≡ every i (λ k. wordGood room (atSlot packed pool k)) → clear slotMask x ≡ wordGood room (atSlot packed pool i)
       → clear slotMask (bitOr seen x) ≡ every n (atSlot (slotGood s g) pool)
   slots-last s g {room} er ls lg n i seen x en before e =
-      seen-more slotMask _ i seen x before e
-      ∙ ap₂ (λ (m : ℕ) (r : List ℕ). every m (λ k. wordGood r (atSlot packed pool k))) en er
+      seen-more slotMask _ i n seen x en before e
+      ∙ ap (λ (r : List ℕ). every n (λ k. wordGood r (atSlot packed pool k))) er
       ∙ (λ w. every n (λ k. slot-good s g k ls lg w))

@@ -106,6 +106,32 @@ fn shown(room: &[u64; 4], x: u64) -> u64
     x | (x + room[(x % 4) as usize])
 }
 
+// What a slot shows, where three bytes follow it.
+fn shown_at(room: &[u64; 4], pool: &[u8], slot: usize) -> u64
+    requires { ⌜ Roomy (now room) × (slot * 5 + 8 ≤ length (now pool)) ⌝ }
+    ensures { λ r. ⌜ clear slotMask r ≡ wordGood (now (room .entry)) (atSlot packed (now (pool .entry)) slot) ⌝ }
+{
+    shown(room, word_within(pool, slot))
+}
+
+// What the slots of the first groups of four show.
+fn groups_shown(room: &[u64; 4], pool: &[u8], groups: usize) -> u64
+    requires { ⌜ Roomy (now room) × (groups * 20 + 3 ≤ length (now pool)) ⌝ }
+    ensures { λ r. ⌜ clear slotMask r ≡ every (groups * 4) (λ i. wordGood (now (room .entry)) (atSlot packed (now (pool .entry)) i)) ⌝ }
+{
+    let mut seen: u64 = 0;
+    let mut j = 0;
+    while j < groups {
+        let i = j * 4;
+        seen = seen | shown_at(room, pool, i);
+        seen = seen | shown_at(room, pool, i + 1);
+        seen = seen | shown_at(room, pool, i + 2);
+        seen = seen | shown_at(room, pool, i + 3);
+        j += 1;
+    }
+    seen
+}
+
 // What the slots from one up to another show, and those before.
 fn rest_shown(room: &[u64; 4], pool: &[u8], from: usize, to: usize, first: u64) -> u64
     requires { ⌜ Roomy (now room) × (from ≤ to) × (to * 5 + 3 ≤ length (now pool)) × (clear slotMask first ≡ every from (λ i. wordGood (now room) (atSlot packed (now pool) i))) ⌝ }
@@ -114,7 +140,7 @@ fn rest_shown(room: &[u64; 4], pool: &[u8], from: usize, to: usize, first: u64) 
     let mut seen = first;
     let mut i = from;
     while i < to {
-        seen = seen | shown(room, word_within(pool, i));
+        seen = seen | shown_at(room, pool, i);
         i += 1;
     }
     seen
@@ -131,7 +157,9 @@ pub fn all_slots_good(s: u8, g: usize, pool: &[u8]) -> bool
     }
     let room = rooms_of(s, g);
     let last = n - 1;
-    let most = rest_shown(&room, pool, 0, last, 0);
+    let groups = last / 4;
+    let first = groups_shown(&room, pool, groups);
+    let most = rest_shown(&room, pool, groups * 4, last, first);
     let seen = most | shown(&room, word_at(pool, last));
     (seen & 1101667533052) == 0
 }

@@ -1,6 +1,6 @@
--- All slots but the last show what they show, and the last is read by itself: no byte follows it.
+-- Groups of four slots, then the rest but one, then the last by itself: no byte follows it.
 use Prim.Native.Nat.{_-_, _/_}
-use mathlib.Core.Path.{_≡_, refl}
+use mathlib.Core.Path.{_≡_}
 use native.Mathlib.Omega.{arith}
 use lib.ListN.{length}
 use borrow.Author.Needs.{needs}
@@ -24,21 +24,26 @@ rooms-of-requires c κs = search needs
 sub-last : tie.Need-sub-last
 sub-last c = search needs
 
+groups-shown-requires : tie.Need-groups-shown-requires
+groups-shown-requires c κs = (roomy (c .before), omega arith)
+
+mul-rest-shown : tie.Need-mul-rest-shown
+mul-rest-shown c = search needs
+
 rest-shown-requires : tie.Need-rest-shown-requires
-unfolding every
-rest-shown-requires c κs = (roomy (c .before), omega arith, omega arith, refl)
+rest-shown-requires c κs = (roomy (c .before .before .before), omega arith, omega arith, c .before .groups-shown .ensures)
 
 word-at-requires : tie.Need-word-at-requires
 word-at-requires c κs = search needs
 
 shown-requires : tie.Need-shown-requires
-shown-requires c κs = (c .word-at .ensures .1, roomy (c .before .before .before .before))
+shown-requires c κs = (c .word-at .ensures .1, roomy (c .before .before .before .before .before .before))
 
 returns-2 : tie.Need-returns-2
 unfolding allSlotsGood
 returns-2 c =
     let rest = c .before .before .before in
-    let rooms = rest .before .before in
+    let rooms = rest .before .before .before .before in
     let known = rooms .before .before in
     let a = known .before .args in
     let n = length (a .pool .now) / 5 in
@@ -52,6 +57,8 @@ all-slots-good-spec =
     returns
     rooms-of-requires
     sub-last
+    groups-shown-requires
+    mul-rest-shown
     rest-shown-requires
     word-at-requires
     shown-requires

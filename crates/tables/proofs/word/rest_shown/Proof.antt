@@ -19,11 +19,8 @@ abbrev μ-loop : tie.MeasureT-loop
 loop-holds : tie.Need-loop-holds Inv-loop μ-loop
 loop-holds c = (omega arith, c .before .pre .3)
 
-word-within-requires : tie.Need-word-within-requires Inv-loop μ-loop
-word-within-requires c κs = omega arith
-
-shown-requires : tie.Need-shown-requires Inv-loop μ-loop
-shown-requires c κs = (c .word-within .ensures .1, c .before .before .before .before .pre .0)
+shown-at-requires : tie.Need-shown-at-requires Inv-loop μ-loop
+shown-at-requires c κs = (c .before .before .before .pre .0, omega arith)
 
 add-i : tie.Need-add-i Inv-loop μ-loop
 add-i c = omega arith
@@ -33,8 +30,8 @@ loop-less c = omega arith
 
 loop-again : tie.Need-loop-again Inv-loop μ-loop
 loop-again c =
-    let l = c .before .before .before .loop in
-    (omega arith, seen-more slotMask _ (l .i) (l .seen) (c .shown .result) (l .inv .1) (rw (c .before .word-within .ensures .0) at (c .shown .ensures)))
+    let l = c .before .before .loop in
+    (omega arith, seen-more slotMask _ (l .i) _ (l .seen) (c .shown-at .result) refl (l .inv .1) (c .shown-at .ensures))
 
 returns : tie.Need-returns Inv-loop μ-loop
 returns c = every-done _ (c .before .loop .i) _ (c .before .loop .inv .0) (c .loop-test .left) (c .before .loop .inv .1)
@@ -42,13 +39,4 @@ returns c = every-done _ (c .before .loop .i) _ (c .before .loop .inv .0) (c .lo
 pub rest-shown-spec : {M : Type 1} → statement M
 rest-shown-spec =
     tie.close
-    (tie.spec
-    Inv-loop
-    μ-loop
-    loop-holds
-    word-within-requires
-    shown-requires
-    add-i
-    loop-less
-    loop-again
-    returns)
+    (tie.spec Inv-loop μ-loop loop-holds shown-at-requires add-i loop-less loop-again returns)
