@@ -61,7 +61,7 @@ module _ (a b c kind from to third p : ℕ) where
   below-tested l = rw (le-leb kind 3 (l .low-kind), lt-ltb from a (l .low-from), lt-ltb to a (l .low-to), lt-ltb third b (l .low-third), lt-ltb p c (l .low-pointer))
 
 -- ---- the mask takes each field's own bits
-masked-block : (x m r s : ℕ) {x′ r′ : ℕ} → r < 256 → s < 256 → bitAnd x m ≡ x′ → bitAnd r s ≡ r′ → bitAnd (x * 256 + r) (m * 256 + s) ≡ x′ * 256 + r′
+pub masked-block : (x m r s : ℕ) {x′ r′ : ℕ} → r < 256 → s < 256 → bitAnd x m ≡ x′ → bitAnd r s ≡ r′ → bitAnd (x * 256 + r) (m * 256 + s) ≡ x′ * 256 + r′
 masked-block x m r s lr ls ex er = and-block 8 x m r s lr ls ∙ ap₂ (λ (a b : ℕ). a * 256 + b) ex er
 
 no-field : (p third to from kind : ℕ) → (((p * 256 * 256 + third * 128) * 256 + to * 128) * 256 + from * 128) * 256 + kind * 4 ≡ 0

@@ -4,6 +4,7 @@ pub mod KindLaws
 pub mod BitLaws
 pub mod FieldLaws
 pub mod WordLaws
+pub mod EightLaws
 pub mod DeskLaws
 pub mod FillLaws
 pub mod RowLaws

@@ -27,6 +27,10 @@ clear mask a = eqb (bitAnd a mask) 0
 abbrev pub slotMask : ℕ
 slotMask = 1101667533052
 
+-- the bits of each of eight bytes but the lowest
+abbrev pub bitMask : ℕ
+bitMask = 18374403900871474942
+
 -- by kind, what each field of a good slot lacks at most of its top bit: 128 - s for a site, 256 - g for the pointer, and 127 or 255 where they must be 0
 abbrev pub rooms : ℕ → ℕ → List ℕ
 rooms s g =
