@@ -132,18 +132,23 @@ fn groups_shown(room: &[u64; 4], pool: &[u8], groups: usize) -> u64
     seen
 }
 
-// What the slots from one up to another show, and those before.
+// What up to three slots more show, and those before.
 fn rest_shown(room: &[u64; 4], pool: &[u8], from: usize, to: usize, first: u64) -> u64
-    requires { ⌜ Roomy (now room) × (from ≤ to) × (to * 5 + 3 ≤ length (now pool)) × (clear slotMask first ≡ every from (λ i. wordGood (now room) (atSlot packed (now pool) i))) ⌝ }
+    requires { ⌜ Roomy (now room) × (from ≤ to) × (to ≤ from + 3) × (to * 5 + 3 ≤ length (now pool)) × (clear slotMask first ≡ every from (λ i. wordGood (now room) (atSlot packed (now pool) i))) ⌝ }
     ensures { λ r. ⌜ clear slotMask r ≡ every to (λ i. wordGood (now (room .entry)) (atSlot packed (now (pool .entry)) i)) ⌝ }
 {
-    let mut seen = first;
-    let mut i = from;
-    while i < to {
-        seen = seen | shown_at(room, pool, i);
-        i += 1;
+    if to <= from {
+        return first;
     }
-    seen
+    let one = first | shown_at(room, pool, from);
+    if to <= from + 1 {
+        return one;
+    }
+    let two = one | shown_at(room, pool, from + 1);
+    if to <= from + 2 {
+        return two;
+    }
+    two | shown_at(room, pool, from + 2)
 }
 
 // Whether every slot is good: a field above its limit carries into its top bit, or shows there by itself.

@@ -31,7 +31,7 @@ mul-rest-shown : tie.Need-mul-rest-shown
 mul-rest-shown c = search needs
 
 rest-shown-requires : tie.Need-rest-shown-requires
-rest-shown-requires c κs = (roomy (c .before .before .before), omega arith, omega arith, c .before .groups-shown .ensures)
+rest-shown-requires c κs = (roomy (c .before .before .before), omega arith, omega arith, omega arith, c .before .groups-shown .ensures)
 
 word-at-requires : tie.Need-word-at-requires
 word-at-requires c κs = search needs
