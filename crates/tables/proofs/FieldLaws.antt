@@ -7,18 +7,29 @@ use lib.Bits.{bitAnd, bitOr, and-block, and-high}
 use lib.Dec.{eqb, leb, ltb}
 use borrow.Author.Tests.{eqb-true, eq-eqb, leb-true, le-leb, ltb-true, lt-ltb}
 use Rattle.model.proofs.TestLaws.{and-both}
-use Rattle.tables.specs.Word.{packed}
+use Rattle.model.specs.Questions.{every}
+use Rattle.model.proofs.QuestionLaws.{every-more}
+use Rattle.tables.specs.Word.{packed, clear, slotMask}
 use Rattle.tables.proofs.BitLaws.{and-over-or, or-zero}
 
--- the top bit of each field, and the kind's bits above 3
-abbrev pub mask : ℕ
-mask = 1101667533052
+-- ---- what is seen so far
+pub clear-or : (mask a b : ℕ) → clear mask (bitOr a b) ≡ (clear mask a && clear mask b)
+clear-or mask a b = ap (λ (n : ℕ). eqb n 0) (and-over-or a b mask) ∙ or-zero (bitAnd a mask) (bitAnd b mask)
 
-abbrev pub clear : ℕ → Bool
-clear a = eqb (bitAnd a mask) 0
+-- one more is seen
+pub seen-more : (mask : ℕ) (P : ℕ → Bool) (i next seen x : ℕ) → i + 1 ≡ next → clear mask seen ≡ every i P → clear mask x ≡ P i → clear mask (bitOr seen x) ≡ every next P
+seen-more mask P i next seen x q before e =
+    clear-or mask seen x ∙ ap (λ (b : Bool). clear mask seen && b) e ∙ every-more P i before ∙ ap (λ (n : ℕ). every n P) q
 
-pub clear-or : (a b : ℕ) → clear (bitOr a b) ≡ (clear a && clear b)
-clear-or a b = ap (λ (n : ℕ). eqb n 0) (and-over-or a b mask) ∙ or-zero (bitAnd a mask) (bitAnd b mask)
+-- four more are seen
+pub seen-four : (mask : ℕ) (P : ℕ → Bool) (i seen a b c d : ℕ) → clear mask seen ≡ every (i * 4) P
+    → clear mask a ≡ P (i * 4) → clear mask b ≡ P (i * 4 + 1) → clear mask c ≡ P (i * 4 + 2) → clear mask d ≡ P (i * 4 + 3)
+    → clear mask (bitOr (bitOr (bitOr (bitOr seen a) b) c) d) ≡ every ((i + 1) * 4) P
+seen-four mask P i seen a b c d before ea eb ec ed =
+    let one = seen-more mask P (i * 4) (i * 4 + 1) seen a (omega arith) before ea in
+    let two = seen-more mask P (i * 4 + 1) (i * 4 + 2) (bitOr seen a) b (omega arith) one eb in
+    let three = seen-more mask P (i * 4 + 2) (i * 4 + 3) (bitOr (bitOr seen a) b) c (omega arith) two ec in
+    seen-more mask P (i * 4 + 3) ((i + 1) * 4) (bitOr (bitOr (bitOr seen a) b) c) d (omega arith) three ed
 
 -- ---- five fields below limits: of the kind 4, of from and to a, of third b, of the pointer c
 abbrev pub fieldsBelow : ℕ → ℕ → ℕ → ℕ → ℕ → ℕ → ℕ → ℕ → Bool
@@ -50,7 +61,7 @@ module _ (a b c kind from to third p : ℕ) where
   below-tested l = rw (le-leb kind 3 (l .low-kind), lt-ltb from a (l .low-from), lt-ltb to a (l .low-to), lt-ltb third b (l .low-third), lt-ltb p c (l .low-pointer))
 
 -- ---- the mask takes each field's own bits
-masked-block : (x m r s : ℕ) {x′ r′ : ℕ} → r < 256 → s < 256 → bitAnd x m ≡ x′ → bitAnd r s ≡ r′ → bitAnd (x * 256 + r) (m * 256 + s) ≡ x′ * 256 + r′
+pub masked-block : (x m r s : ℕ) {x′ r′ : ℕ} → r < 256 → s < 256 → bitAnd x m ≡ x′ → bitAnd r s ≡ r′ → bitAnd (x * 256 + r) (m * 256 + s) ≡ x′ * 256 + r′
 masked-block x m r s lr ls ex er = and-block 8 x m r s lr ls ∙ ap₂ (λ (a b : ℕ). a * 256 + b) ex er
 
 no-field : (p third to from kind : ℕ) → (((p * 256 * 256 + third * 128) * 256 + to * 128) * 256 + from * 128) * 256 + kind * 4 ≡ 0
@@ -58,7 +69,7 @@ no-field : (p third to from kind : ℕ) → (((p * 256 * 256 + third * 128) * 25
 no-field p third to from kind e = (omega arith, omega arith, omega arith, omega arith, omega arith)
 
 module _ (kind from to third p : ℕ) (k : kind < 256) (f : from < 256) (t : to < 256) (h : third < 256) where
-  masked : bitAnd (packed kind from to third p) mask
+  masked : bitAnd (packed kind from to third p) slotMask
       ≡ (((p / 256 % 2 * 256 * 256 + third / 128 % 2 * 128) * 256 + to / 128 % 2 * 128) * 256 + from / 128 % 2 * 128) * 256 + kind / 4 % 64 * 4
   masked =
       let e : packed kind from to third p ≡ (((p * 256 + third) * 256 + to) * 256 + from) * 256 + kind = omega arith in
@@ -66,11 +77,11 @@ module _ (kind from to third p : ℕ) (k : kind < 256) (f : from < 256) (t : to 
       let with-to = masked-block (p * 256 + third) 65664 to 128 t (omega arith) with-third (and-high to 1 7) in
       let with-from = masked-block ((p * 256 + third) * 256 + to) 16810112 from 128 f (omega arith) with-to (and-high from 1 7) in
       let with-kind = masked-block (((p * 256 + third) * 256 + to) * 256 + from) 4303388800 kind 252 k (omega arith) with-from (and-high kind 6 2) in
-      ap (λ (n : ℕ). bitAnd n mask) e ∙ with-kind
+      ap (λ (n : ℕ). bitAnd n slotMask) e ∙ with-kind
 
-  pub clear-below : p < 512 → clear (packed kind from to third p) ≡ true → Below 128 128 256 kind from to third p
+  pub clear-below : p < 512 → clear slotMask (packed kind from to third p) ≡ true → Below 128 128 256 kind from to third p
   clear-below l e =
-      let z = no-field (p / 256 % 2) (third / 128 % 2) (to / 128 % 2) (from / 128 % 2) (kind / 4 % 64) (sym masked ∙ eqb-true (bitAnd (packed kind from to third p) mask) 0 e) in
+      let z = no-field (p / 256 % 2) (third / 128 % 2) (to / 128 % 2) (from / 128 % 2) (kind / 4 % 64) (sym masked ∙ eqb-true (bitAnd (packed kind from to third p) slotMask) 0 e) in
       record {
         low-kind = omega (arith, z .4);
         low-from = omega (arith, z .3);
@@ -79,5 +90,5 @@ module _ (kind from to third p : ℕ) (k : kind < 256) (f : from < 256) (t : to 
         low-pointer = omega (arith, z .0);
       }
 
-pub below-clear : (kind from to third p : ℕ) → Below 128 128 256 kind from to third p → clear (packed kind from to third p) ≡ true
+pub below-clear : (kind from to third p : ℕ) → Below 128 128 256 kind from to third p → clear slotMask (packed kind from to third p) ≡ true
 below-clear kind from to third p l = eq-eqb _ 0 (masked kind from to third p (omega arith) (omega arith) (omega arith) (omega arith) ∙ omega arith)

@@ -5,6 +5,7 @@ pub mod PointerLaws
 pub mod BitLaws
 pub mod FieldLaws
 pub mod WordLaws
+pub mod EightLaws
 pub mod DeskLaws
 pub mod FillLaws
 pub mod RowLaws

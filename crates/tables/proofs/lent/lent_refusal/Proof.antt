@@ -17,8 +17,8 @@ given c = let a = c .before .before .before .before .before .args in lent (a .s)
 shape-holds : (c : tie.Else1) → flat .shaped (given (c .before)) ≡ true
 shape-holds c = sym (c .before .shape-good .ensures) ∙ not-false _ (c .if1 .left)
 
-sound-tested : (c : tie.After-all-slots-good) → (c .before .before .all-below .result && c .before .all-below2 .result && c .all-slots-good .result) ≡ flat .sound (given (c .before .before .before .before))
-sound-tested c = λ w. c .before .before .all-below .ensures w && c .before .all-below2 .ensures w && c .all-slots-good .ensures w
+sound-tested : (c : tie.After-all-slots-good) → (c .before .before .all-below .result && c .before .all-bits .result && c .all-slots-good .result) ≡ flat .sound (given (c .before .before .before .before))
+sound-tested c = λ w. c .before .before .all-below .ensures w && c .before .all-bits .ensures w && c .all-slots-good .ensures w
 
 shape-good-requires : tie.Need-shape-good-requires
 shape-good-requires c κs = search needs
@@ -30,8 +30,8 @@ returns c = simp (sym (c .before .shape-good .ensures) ∙ not-true _ (c .if1 .t
 all-below-requires : tie.Need-all-below-requires
 all-below-requires c κs = desk-shaped (given (c .before)) (shape-holds c) .sizes .some-site
 
-all-below-requires-2 : tie.Need-all-below-requires-2
-all-below-requires-2 c κs = search needs
+all-bits-requires : tie.Need-all-bits-requires
+all-bits-requires c κs = search needs
 
 all-slots-good-requires : tie.Need-all-slots-good-requires
 all-slots-good-requires c κs =
@@ -54,7 +54,7 @@ lent-refusal-spec =
     shape-good-requires
     returns
     all-below-requires
-    all-below-requires-2
+    all-bits-requires
     all-slots-good-requires
     returns-2
     returns-3)

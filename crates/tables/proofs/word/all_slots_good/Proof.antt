@@ -1,76 +1,65 @@
--- What is seen so far is clear where every slot so far is good.
-use Prim.Native.Nat.{_≤_, _-_}
-use mathlib.Core.Path.{_≡_, refl}
+-- Groups of four slots, then the rest but one, then the last by itself: no byte follows it.
+use Prim.Native.Nat.{_-_, _/_}
+use mathlib.Core.Path.{_≡_}
 use native.Mathlib.Omega.{arith}
+use lib.ListN.{length}
+use borrow.Author.Needs.{needs}
 use Rattle.model.specs.Questions.{every}
-use Rattle.model.specs.Tables.{atSlot, slotGood, allSlotsGood}
-use Rattle.model.proofs.QuestionLaws.{every-done}
-use Rattle.tables.proofs.FieldLaws.{clear}
-use Rattle.tables.proofs.WordLaws.{slots-more, sum-fits}
+use Rattle.model.specs.Tables.{allSlotsGood}
+use Rattle.tables.specs.Word.{Roomy}
+use Rattle.tables.proofs.WordLaws.{rooms-roomy, slots-last}
 use Rattle.tables.proofs.word.all_slots_good.Statement.{statement}
 use Rattle.tables.proofs.word.all_slots_good.Tie as tie
 
-abbrev Inv-loop : tie.InvT-loop
-Inv-loop s g pool room n seen₀ i₀ seen i = (i ≤ n) × (clear seen ≡ every i (atSlot (slotGood s g) pool))
+roomy : (c : tie.After-rooms-of) → Roomy (c .rooms-of .result)
+roomy c = let a = c .before .before .before .args in rw (c .rooms-of .ensures) (rooms-roomy (a .s) (a .g))
 
-abbrev μ-loop : tie.MeasureT-loop
-μ-loop s g pool room n seen₀ i₀ seen i = n - i
+returns : tie.Need-returns
+unfolding allSlotsGood every
+returns c = let e : length (c .before .before .args .pool .now) / 5 ≡ 0 = omega arith in rw e
 
-rooms-of-requires : tie.Need-rooms-of-requires Inv-loop μ-loop
-rooms-of-requires c κs = omega arith
+rooms-of-requires : tie.Need-rooms-of-requires
+rooms-of-requires c κs = search needs
 
-loop-holds : tie.Need-loop-holds Inv-loop μ-loop
-unfolding every
-loop-holds c = (omega arith, refl)
+sub-last : tie.Need-sub-last
+sub-last c = search needs
 
-word-at-requires : tie.Need-word-at-requires Inv-loop μ-loop
-word-at-requires c κs = omega arith
+groups-shown-requires : tie.Need-groups-shown-requires
+groups-shown-requires c κs = (roomy (c .before), omega arith)
 
-mul-seen : tie.Need-mul-seen Inv-loop μ-loop
-mul-seen c = omega arith
+mul-rest-shown : tie.Need-mul-rest-shown
+mul-rest-shown c = search needs
 
-array-read-seen : tie.Need-array-read-seen Inv-loop μ-loop
-array-read-seen c = omega arith
+rest-shown-requires : tie.Need-rest-shown-requires
+rest-shown-requires c κs = (roomy (c .before .before .before), omega arith, omega arith, omega arith, c .before .groups-shown .ensures)
 
-add-seen : tie.Need-add-seen Inv-loop μ-loop
-add-seen c =
-    let e = c .before .before .before .before in
-    let a = e .before .args in
-    sum-fits (a .s) (a .g) (a .pool .now) (e .shared-slice-known .given) (c .before .before .loop .i) (c .word-at .ensures) (c .before .before .before .rooms-of .ensures)
+word-at-requires : tie.Need-word-at-requires
+word-at-requires c κs = search needs
 
-add-i : tie.Need-add-i Inv-loop μ-loop
-add-i c = omega arith
+shown-requires : tie.Need-shown-requires
+shown-requires c κs = (c .word-at .ensures .1, roomy (c .before .before .before .before .before .before))
 
-loop-less : tie.Need-loop-less Inv-loop μ-loop
-loop-less c = omega arith
-
-loop-again : tie.Need-loop-again Inv-loop μ-loop
-loop-again c =
-    let e = c .before .before .before .before in
-    let a = e .before .args in
-    let l = c .before .before .loop in (
-      omega arith,
-      slots-more (a .s) (a .g) (a .pool .now) (e .shared-slice-known .given) (l .i) (c .word-at .ensures) (c .before .before .before .rooms-of .ensures)
-          (l .seen) (omega arith) (omega arith) (l .inv .1),
-    )
-
-returns : tie.Need-returns Inv-loop μ-loop
+returns-2 : tie.Need-returns-2
 unfolding allSlotsGood
-returns c = every-done _ (c .before .loop .i) _ (c .before .loop .inv .0) (c .loop-test .left) (c .before .loop .inv .1)
+returns-2 c =
+    let rest = c .before .before .before in
+    let rooms = rest .before .before .before .before in
+    let known = rooms .before .before in
+    let a = known .before .args in
+    let n = length (a .pool .now) / 5 in
+    slots-last (a .pool .now) (known .shared-slice-known .given) (a .s) (a .g) (rooms .rooms-of .ensures) (omega arith) (omega arith) n (n - 1)
+    (rest .rest-shown .result) (c .shown .result) (omega arith) (rest .rest-shown .ensures) (rw (c .before .word-at .ensures .0) at (c .shown .ensures))
 
 pub all-slots-good-spec : {M : Type 1} → statement M
 all-slots-good-spec =
     tie.close
     (tie.spec
-    Inv-loop
-    μ-loop
+    returns
     rooms-of-requires
-    loop-holds
+    sub-last
+    groups-shown-requires
+    mul-rest-shown
+    rest-shown-requires
     word-at-requires
-    mul-seen
-    array-read-seen
-    add-seen
-    add-i
-    loop-less
-    loop-again
-    returns)
+    shown-requires
+    returns-2)
