@@ -1,6 +1,7 @@
 -- What the proofs of the functions cite.
 pub mod ByteLaws
 pub mod KindLaws
+pub mod LowestLaws
 pub mod PointerLaws
 pub mod BitLaws
 pub mod FieldLaws

@@ -2,10 +2,10 @@
 use model::Posted;
 ghost use mathlib.Core.Path.{_≡_};
 ghost use mathlib.Core.List.{[], _∷_};
-ghost use Prim.Native.Nat.{_+_, _*_, _≤_};
+ghost use Prim.Native.Nat.{_+_, _-_, _*_, _≤_};
 ghost use lib.ListN.{length};
 ghost use lib.Seq.{sets};
-ghost use Rattle.model.specs.Questions.{lowest};
+ghost use Rattle.model.specs.Questions.{lowestFrom, lowest};
 ghost use Rattle.model.specs.Messages.{slotOf, messageOf};
 ghost use Rattle.model.specs.Tables.{slotsOf, messageAt, emptyAt};
 
@@ -72,12 +72,13 @@ pub fn write_slot(pool: &mut [u8], slot: usize, message: Posted)
     }
 }
 
-// The lowest empty slot; the slot count where no slot is empty.
-pub fn lowest_empty(pool: &[u8]) -> usize
+// The lowest empty slot from a place on, where none before it is empty, one by one.
+fn lowest_from(pool: &[u8], from: usize) -> usize
+    requires { ⌜ (from ≤ slotsOf (now pool)) × (lowestFrom from (slotsOf (now pool) - from) (emptyAt (now pool)) ≡ lowest (slotsOf (now pool)) (emptyAt (now pool))) ⌝ }
     ensures { λ r. ⌜ r ≡ lowest (slotsOf (now (pool .entry))) (emptyAt (now (pool .entry))) ⌝ }
 {
     let n = pool.len() / 5;
-    let mut i = 0;
+    let mut i = from;
     while i < n {
         if pool[i * 5] == 0 {
             return i;
@@ -85,4 +86,29 @@ pub fn lowest_empty(pool: &[u8]) -> usize
         i += 1;
     }
     i
+}
+
+// The lowest empty slot; the slot count where no slot is empty; four slots a turn.
+pub fn lowest_empty(pool: &[u8]) -> usize
+    ensures { λ r. ⌜ r ≡ lowest (slotsOf (now (pool .entry))) (emptyAt (now (pool .entry))) ⌝ }
+{
+    let turns = pool.len() / 20;
+    let mut t = 0;
+    while t < turns {
+        let i = t * 4;
+        if pool[i * 5] == 0 {
+            return i;
+        }
+        if pool[(i + 1) * 5] == 0 {
+            return i + 1;
+        }
+        if pool[(i + 2) * 5] == 0 {
+            return i + 2;
+        }
+        if pool[(i + 3) * 5] == 0 {
+            return i + 3;
+        }
+        t += 1;
+    }
+    lowest_from(pool, turns * 4)
 }
