@@ -1,7 +1,7 @@
 -- Make copy, delete and ask: what their own tests leave, and what an accepted call leaves.
 use Prim.Native.Nat.{ℕ, _+_, _*_, _<_}
-use mathlib.Core.Path.{_≡_, refl}
-use mathlib.Core.Bool.{Bool, true, false, _&&_, not}
+use mathlib.Core.Path.{_≡_}
+use mathlib.Core.Bool.{_&&_, not}
 use mathlib.Core.List.{List}
 use lib.Dec.{eqb, leb}
 use lib.ListN.{length, getD, set}
@@ -16,6 +16,7 @@ use Rattle.model.specs.Answers.{accepted}
 use Rattle.model.specs.Calls.{copyRefusal, deleteRefusal, lowestEmpty, copied, deleted, asked}
 use Rattle.model.specs.Tables.{Desk, lent}
 use Rattle.model.specs.Flat.{flat, place}
+use Rattle.tables.proofs.RowLaws.{test-as-byte}
 use Rattle.model.proofs.TestLaws.{when-not, or-else-none}
 
 -- ---- the tests
@@ -60,10 +61,6 @@ module _ (d : Desk) (s p : ℕ) {at slot : ℕ} (ea : at ≡ place (length (d .o
   deleted-as er ep = rw (er, ep, ea, es)
 
 -- a test as a byte is 1 where it holds
-test-as-byte : (b : Bool) → boolByte b ≡ 1 when b
-test-as-byte true = refl
-test-as-byte false = refl
-
 -- what ask answers
 pub asked-as : (d : Desk) (p : ℕ) {at : ℕ} {r : Answer} → at ≡ place (length (d .owners)) (getD (d .owners) p 0) p
     → r ≡ accepted (boolByte (eqb (getD (d .send) at 0) 0)) Nothing → record { answer = r; desk = d } ≡ asked flat d p

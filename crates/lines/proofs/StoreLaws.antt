@@ -1,14 +1,12 @@
 -- Stores one after another: bytes written as digits, an answer line, and the outcomes of a written call.
 use Prim.Native.Nat.{ℕ, suc, _+_, _*_, _/_, _%_, _≤_, _<_}
-use mathlib.Core.Path.{_≡_, refl, ap, _∙_}
+use mathlib.Core.Path.{_≡_, ap, _∙_}
 use mathlib.Core.List.{List, [], _∷_, _++_}
 use native.Mathlib.Omega.{arith}
 use native.Mathlib.Numerals.{add-one}
 use lib.ListN.{length, getD, drop, set, length-append, drop-of-length-le}
 use lib.Seq.{sets, drop-cons}
 use borrow.Author.Tests.{lt-ltb, le-ltb}
-use Rattle.model.specs.declared.Posted.{Posted}
-use Rattle.model.specs.declared.Posted.the-variants.{Copy, Dec, IncDec, Nothing}
 use Rattle.model.specs.declared.Answer.{Answer}
 use Rattle.model.specs.declared.Call.{Call}
 use Rattle.model.specs.Refusals.{BadShape}
@@ -16,7 +14,7 @@ use Rattle.model.specs.Messages.{slotOf}
 use Rattle.model.specs.Answers.{refused}
 use Rattle.model.specs.Lines.{newline, digitsOf, lineOf, writeCall}
 use Rattle.model.specs.Transcript.{answerBytes, answerLine}
-use Rattle.model.proofs.SlotLaws.{five-bytes}
+use Rattle.model.proofs.SlotLaws.{five-bytes, one-by-one}
 use Rattle.model.proofs.DigitLaws.{length-digits}
 
 -- a store after a store is one store
@@ -50,15 +48,9 @@ newline-after text later bytes at e =
     ∙ sets-then (digitsOf bytes) text (newline ∷ []) at (at + length bytes * 2) (omega (arith, length-digits bytes))
 
 -- the bytes of an answer, the slot's one by one
-five-by-one : (m : Posted) → let l = slotOf m in getD l 0 0 ∷ getD l 1 0 ∷ getD l 2 0 ∷ getD l 3 0 ∷ getD l 4 0 ∷ [] ≡ l
-five-by-one (Copy from to p) = refl
-five-by-one (Dec from to p) = refl
-five-by-one (IncDec from to third p) = refl
-five-by-one Nothing = refl
-
 pub bytes-by-slot : (a : Answer) {l : List ℕ} → l ≡ slotOf (a .posted)
     → a .number ∷ a .value / 256 ∷ a .value % 256 ∷ getD l 0 0 ∷ getD l 1 0 ∷ getD l 2 0 ∷ getD l 3 0 ∷ getD l 4 0 ∷ [] ≡ answerBytes a
-bytes-by-slot a e = rw (e, five-by-one (a .posted))
+bytes-by-slot a e = ap (λ (l : List ℕ). a .number ∷ a .value / 256 ∷ a .value % 256 ∷ l) (one-by-one (a .posted) e)
 
 -- an answer line has 17 characters
 pub length-answer-line : (a : Answer) → length (answerLine a) ≡ 17

@@ -14,13 +14,17 @@ use borrow.Author.Tests.{ltb-true, ltb-false}
 use Rattle.model.specs.Questions.{every, some, lowestFrom, lowest, total, upTo}
 use Rattle.model.proofs.TestLaws.{true-not-false, and-both, or-neither}
 
+-- a loop that has come to its end: what is so at i is so at n
+at-end : {A : Type 0} (f : ℕ → A) (i n : ℕ) {x : A} → i ≤ n → n ≤ i → x ≡ f i → x ≡ f n
+at-end f i n low high e = let q : i ≡ n = omega arith in rw q at e
+
 -- ---- every
 pub every-more : (P : ℕ → Bool) (i : ℕ) {ok : Bool} → ok ≡ every i P → (ok && P i) ≡ every (i + 1) P
 unfolding every
 every-more P i e = rw (add-one, e)
 
 pub every-done : (P : ℕ → Bool) (i n : ℕ) {ok : Bool} → i ≤ n → n ≤ i → ok ≡ every i P → ok ≡ every n P
-every-done P i n low high e = let q : i ≡ n = omega arith in rw q at e
+every-done P i n = at-end (λ k. every k P) i n
 
 pub every-at : (P : ℕ → Bool) (n i : ℕ) → i < n → every n P ≡ true → P i ≡ true
 unfolding every
@@ -48,7 +52,7 @@ unfolding some
 some-more P i e = rw (add-one, e)
 
 pub some-done : (P : ℕ → Bool) (i n : ℕ) {found : Bool} → i ≤ n → n ≤ i → found ≡ some i P → found ≡ some n P
-some-done P i n low high e = let q : i ≡ n = omega arith in rw q at e
+some-done P i n = at-end (λ k. some k P) i n
 
 pub some-none : (P : ℕ → Bool) (n i : ℕ) → i < n → some n P ≡ false → P i ≡ false
 unfolding some

@@ -53,6 +53,16 @@ five-bytes (Decr a b p) = refl
 five-bytes (IncDec a b c p) = refl
 five-bytes Nothing = refl
 
+-- the bytes of a message one by one
+pub one-by-one : (m : Posted) {l : List ℕ} → l ≡ slotOf m → getD l 0 0 ∷ getD l 1 0 ∷ getD l 2 0 ∷ getD l 3 0 ∷ getD l 4 0 ∷ [] ≡ slotOf m
+one-by-one m e = rw e (go m)
+  where
+    go : (m : Posted) → let l = slotOf m in getD l 0 0 ∷ getD l 1 0 ∷ getD l 2 0 ∷ getD l 3 0 ∷ getD l 4 0 ∷ [] ≡ l
+    go (Copy from to p) = refl
+    go (Decr from to p) = refl
+    go (IncDec from to third p) = refl
+    go Nothing = refl
+
 bytes-read-back : {A : Type 0} (f : ℕ → ℕ → ℕ → ℕ → ℕ → A) (l : List ℕ) (i kind from to third p : ℕ) → i * 5 + 5 ≤ length l
     → atSlot f (sets l (i * 5) (kind ∷ from ∷ to ∷ third ∷ p ∷ [])) i ≡ f kind from to third p
 bytes-read-back f l i kind from to third p h =

@@ -7,7 +7,6 @@ pub mod BitLaws
 pub mod FieldLaws
 pub mod WordLaws
 pub mod EightLaws
-pub mod DeskLaws
 pub mod FillLaws
 pub mod RowLaws
 pub mod OpeningLaws

@@ -22,7 +22,7 @@ ownCell site owner = 1 when eqb site owner
 own-row-length : (site : ℕ) (owners : List ℕ) → length (ownRow site owners) ≡ length owners
 own-row-length site owners = length-map owners (ownCell site)
 
-test-as-byte : (b : Bool) → boolByte b ≡ 1 when b
+pub test-as-byte : (b : Bool) → boolByte b ≡ 1 when b
 test-as-byte true = refl
 test-as-byte false = refl
 

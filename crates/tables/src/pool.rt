@@ -1,5 +1,6 @@
 // Slots of the pool: kind, from, to, third, pointer (Document 01, What the host lends).
 use model::Posted;
+use rules::message::slot_bytes;
 ghost use mathlib.Core.Path.{_≡_};
 ghost use mathlib.Core.List.{[], _∷_};
 ghost use Prim.Native.Nat.{_+_, _-_, _*_, _≤_};
@@ -59,17 +60,13 @@ pub fn write_slot(pool: &mut [u8], slot: usize, message: Posted)
     requires { ⌜ slot * 5 + 5 ≤ length (now pool) ⌝ }
     ensures { λ _. ⌜ now (pool .exit) ≡ sets (now (pool .entry)) (slot * 5) (slotOf message) ⌝ }
 {
-    match message {
-        Posted::Copy { from, to, pointer } => write_bytes(pool, slot, 1, from, to, 0, pointer),
-        Posted::Dec { from, to, pointer } => write_bytes(pool, slot, 2, from, to, 0, pointer),
-        Posted::IncDec {
-            from,
-            to,
-            third,
-            pointer,
-        } => write_bytes(pool, slot, 3, from, to, third, pointer),
-        Posted::Nothing => write_bytes(pool, slot, 0, 0, 0, 0, 0),
-    }
+    let bytes = slot_bytes(message);
+    let kind = bytes[0];
+    let from = bytes[1];
+    let to = bytes[2];
+    let third = bytes[3];
+    let pointer = bytes[4];
+    write_bytes(pool, slot, kind, from, to, third, pointer)
 }
 
 // The lowest empty slot from a place on, where none before it is empty, one by one.

@@ -6,7 +6,7 @@ use borrow.Author.Tests.{not-true, not-false}
 use Rattle.model.specs.Tables.{Desk, lent}
 use Rattle.model.specs.Calls.{lentRefusal}
 use Rattle.model.specs.Flat.{flat}
-use Rattle.tables.proofs.DeskLaws.{desk-shaped}
+use Rattle.model.proofs.InWords.{shape-in-words}
 use Rattle.tables.proofs.lent.lent_refusal.Statement.{statement}
 use Rattle.tables.proofs.lent.lent_refusal.Tie as tie
 
@@ -28,7 +28,7 @@ unfolding lentRefusal
 returns c = simp (sym (c .before .shape-good .ensures) ∙ not-true _ (c .if1 .taken))
 
 all-below-requires : tie.Need-all-below-requires
-all-below-requires c κs = desk-shaped (given (c .before)) (shape-holds c) .sizes .some-site
+all-below-requires c κs = shape-in-words (given (c .before)) .0 (shape-holds c) .sizes .some-site
 
 all-bits-requires : tie.Need-all-bits-requires
 all-bits-requires c κs = search needs
@@ -36,7 +36,7 @@ all-bits-requires c κs = search needs
 all-slots-good-requires : tie.Need-all-slots-good-requires
 all-slots-good-requires c κs =
     let e = c .before .before in
-    let z = desk-shaped (given (e .before)) (shape-holds e) .sizes in
+    let z = shape-in-words (given (e .before)) .0 (shape-holds e) .sizes in
     (z .few-sites, z .few-pointers)
 
 returns-2 : tie.Need-returns-2

@@ -5,7 +5,7 @@ use borrow.Author.Needs.{needs}
 use borrow.Author.Tests.{not-true, not-false}
 use Rattle.model.specs.Tables.{Desk, lent}
 use Rattle.model.specs.Flat.{flat}
-use Rattle.tables.proofs.DeskLaws.{desk-shaped}
+use Rattle.model.proofs.InWords.{shape-in-words}
 use Rattle.tables.proofs.OpeningLaws.{shape-refused, owners-refused, opened}
 use Rattle.tables.proofs.opening.open_desk.Statement.{statement}
 use Rattle.tables.proofs.opening.open_desk.Tie as tie
@@ -30,7 +30,7 @@ returns : tie.Need-returns
 returns c = shape-refused (given (c .before .before)) (sym (c .before .before .shape-good .ensures) ∙ not-true _ (c .before .if1 .taken)) (c .refused .ensures)
 
 all-below-requires : tie.Need-all-below-requires
-all-below-requires c κs = desk-shaped (given (c .before)) (shape-holds c) .sizes .some-site
+all-below-requires c κs = shape-in-words (given (c .before)) .0 (shape-holds c) .sizes .some-site
 
 refused-requires-2 : tie.Need-refused-requires-2
 refused-requires-2 c κs = search needs
@@ -47,7 +47,7 @@ clear-counters-requires c κs = search needs
 write-rows-requires : tie.Need-write-rows-requires
 write-rows-requires c κs =
     let e = c .before .before .before .before .before .before .before in
-    let f = desk-shaped (given (e .before)) (shape-holds e) in
+    let f = shape-in-words (given (e .before)) .0 (shape-holds e) in
     (f .sizes .few-sites, f .sizes .few-pointers, f .receive-length)
 
 clear-slots-requires : tie.Need-clear-slots-requires
