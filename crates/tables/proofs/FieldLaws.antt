@@ -1,7 +1,7 @@
 -- A packed number shows none of the mask's bits where each field is below its top bit.
 use Prim.Native.Nat.{ℕ, _+_, _*_, _/_, _%_, _≤_, _<_}
-use mathlib.Core.Path.{_≡_, sym, ap, ap₂, _∙_}
-use mathlib.Core.Bool.{Bool, true, _&&_}
+use mathlib.Core.Path.{_≡_, refl, sym, ap, ap₂, _∙_}
+use mathlib.Core.Bool.{Bool, true, false, _&&_}
 use native.Mathlib.Omega.{arith}
 use lib.Bits.{bitAnd, bitOr, and-block, and-high}
 use lib.Dec.{eqb, leb, ltb}
@@ -21,15 +21,21 @@ pub seen-more : (mask : ℕ) (P : ℕ → Bool) (i next seen x : ℕ) → i + 1 
 seen-more mask P i next seen x q before e =
     clear-or mask seen x ∙ ap (λ (b : Bool). clear mask seen && b) e ∙ every-more P i before ∙ ap (λ (n : ℕ). every n P) q
 
--- four more are seen
-pub seen-four : (mask : ℕ) (P : ℕ → Bool) (i seen a b c d : ℕ) → clear mask seen ≡ every (i * 4) P
-    → clear mask a ≡ P (i * 4) → clear mask b ≡ P (i * 4 + 1) → clear mask c ≡ P (i * 4 + 2) → clear mask d ≡ P (i * 4 + 3)
-    → clear mask (bitOr (bitOr (bitOr (bitOr seen a) b) c) d) ≡ every ((i + 1) * 4) P
-seen-four mask P i seen a b c d before ea eb ec ed =
-    let one = seen-more mask P (i * 4) (i * 4 + 1) seen a (omega arith) before ea in
-    let two = seen-more mask P (i * 4 + 1) (i * 4 + 2) (bitOr seen a) b (omega arith) one eb in
-    let three = seen-more mask P (i * 4 + 2) (i * 4 + 3) (bitOr (bitOr seen a) b) c (omega arith) two ec in
-    seen-more mask P (i * 4 + 3) ((i + 1) * 4) (bitOr (bitOr (bitOr seen a) b) c) d (omega arith) three ed
+-- one more is seen, as two numbers that are kept apart
+and-pairs : (a b c d : Bool) → ((a && b) && (c && d)) ≡ ((a && c) && (b && d))
+and-pairs true true c d = refl
+and-pairs true false true d = refl
+and-pairs true false false d = refl
+and-pairs false b c d = refl
+
+pub apart-more : (mask : ℕ) (P : ℕ → Bool) (i numbers sums x y : ℕ) → clear mask (bitOr numbers sums) ≡ every i P → (clear mask x && clear mask y) ≡ P i
+    → clear mask (bitOr (bitOr numbers x) (bitOr sums y)) ≡ every (i + 1) P
+apart-more mask P i numbers sums x y before e =
+    clear-or mask (bitOr numbers x) (bitOr sums y)
+    ∙ ap₂ (λ (a b : Bool). a && b) (clear-or mask numbers x) (clear-or mask sums y)
+    ∙ and-pairs (clear mask numbers) (clear mask x) (clear mask sums) (clear mask y)
+    ∙ ap₂ (λ (a b : Bool). a && b) (sym (clear-or mask numbers sums)) e
+    ∙ every-more P i before
 
 -- ---- five fields below limits: of the kind 4, of from and to a, of third b, of the pointer c
 abbrev pub fieldsBelow : ℕ → ℕ → ℕ → ℕ → ℕ → ℕ → ℕ → ℕ → Bool

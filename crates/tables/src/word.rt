@@ -1,6 +1,7 @@
 // Whether every slot is good, five bytes at a time as one number (Document 01, What the host lends).
 ghost use mathlib.Core.Path.{_≡_};
 ghost use Prim.Native.Nat.{_+_, _*_, _≤_, _<_};
+ghost use lib.Bits.{bitOr};
 ghost use lib.ListN.{length};
 ghost use Rattle.model.specs.Questions.{every};
 ghost use Rattle.model.specs.Tables.{atSlot, allSlotsGood};
@@ -114,22 +115,43 @@ fn shown_at(room: &[u64; 4], pool: &[u8], slot: usize) -> u64
     shown(room, word_within(pool, slot))
 }
 
+// What the slots so far show: their numbers, and their numbers with the room of their kinds, kept apart, which takes fewer steps.
+struct Seen {
+    numbers: u64,
+    sums: u64,
+}
+
+// What is seen with one slot more, where three bytes follow it.
+fn with_slot(seen: Seen, room: &[u64; 4], pool: &[u8], slot: usize) -> Seen
+    requires { ⌜ Roomy (now room) × (slot * 5 + 8 ≤ length (now pool)) ⌝ }
+    requires { ⌜ clear slotMask (bitOr (seen .numbers) (seen .sums)) ≡ every slot (λ i. wordGood (now room) (atSlot packed (now pool) i)) ⌝ }
+    ensures { λ r. ⌜ clear slotMask (bitOr (r .numbers) (r .sums)) ≡ every (slot + 1) (λ i. wordGood (now (room .entry)) (atSlot packed (now (pool .entry)) i)) ⌝ }
+{
+    let x = word_within(pool, slot);
+    let numbers = seen.numbers | x;
+    let sums = seen.sums | (x + room[(x % 4) as usize]);
+    Seen { numbers, sums }
+}
+
 // What the slots of the first groups of four show.
 fn groups_shown(room: &[u64; 4], pool: &[u8], groups: usize) -> u64
     requires { ⌜ Roomy (now room) × (groups * 20 + 3 ≤ length (now pool)) ⌝ }
     ensures { λ r. ⌜ clear slotMask r ≡ every (groups * 4) (λ i. wordGood (now (room .entry)) (atSlot packed (now (pool .entry)) i)) ⌝ }
 {
-    let mut seen: u64 = 0;
+    let mut seen = Seen {
+        numbers: 0,
+        sums: 0,
+    };
     let mut j = 0;
     while j < groups {
         let i = j * 4;
-        seen = seen | shown_at(room, pool, i);
-        seen = seen | shown_at(room, pool, i + 1);
-        seen = seen | shown_at(room, pool, i + 2);
-        seen = seen | shown_at(room, pool, i + 3);
+        let a = with_slot(seen, room, pool, i);
+        let b = with_slot(a, room, pool, i + 1);
+        let c = with_slot(b, room, pool, i + 2);
+        seen = with_slot(c, room, pool, i + 3);
         j += 1;
     }
-    seen
+    seen.numbers | seen.sums
 }
 
 // What up to three slots more show, and those before.
