@@ -24,7 +24,7 @@ fn write_byte(text: &mut [u8], at: usize, byte: u8)
 }
 
 // Bytes as digits, at a place of a text.
-pub fn write_bytes(text: &mut [u8], at: usize, bytes: &[u8])
+fn write_bytes(text: &mut [u8], at: usize, bytes: &[u8])
     requires { ⌜ at + length (now bytes) * 2 ≤ length (now text) ⌝ }
     ensures { λ _. ⌜ now (text .exit) ≡ sets (now (text .entry)) at (digitsOf (now (bytes .entry))) ⌝ }
 {
@@ -36,7 +36,7 @@ pub fn write_bytes(text: &mut [u8], at: usize, bytes: &[u8])
 }
 
 // Bytes as digits, and a newline.
-pub fn write_line(text: &mut [u8], at: usize, bytes: &[u8])
+fn write_line(text: &mut [u8], at: usize, bytes: &[u8])
     requires { ⌜ at + length (now bytes) * 2 + 1 ≤ length (now text) ⌝ }
     ensures { λ _. ⌜ now (text .exit) ≡ sets (now (text .entry)) at (digitsOf (now (bytes .entry)) ++ (newline ∷ [])) ⌝ }
 {

@@ -49,7 +49,7 @@ pub fn minus(site: u8, owner: u8, p: u8, m: Posted) -> u32
 }
 
 // Plus less minus, one signed whole number.
-pub fn balance(plus: u32, minus: u32) -> i32
+pub(crate) fn balance(plus: u32, minus: u32) -> i32
     requires { ⌜ (plus < 2147483648) × (minus < 2147483648) ⌝ }
     ensures { λ r. ⌜ r ≡ balanceOf plus minus ⌝ }
 {

@@ -1,9 +1,9 @@
 // The numbers 1 and 2 of what is lent (Document 01, Why a call is turned down).
-use crate::bytes::all_below;
-use crate::bytes::all_bits;
 use crate::shape::shape_good;
 use crate::shape::sizes_good;
-use crate::word::all_slots_good;
+use scan::bytes::all_below;
+use scan::bytes::all_bits;
+use scan::word::all_slots_good;
 ghost use mathlib.Core.Path.{_≡_};
 ghost use Rattle.model.specs.Tables.{lent, ownersRefusal};
 ghost use Rattle.model.specs.Calls.{lentRefusal};
@@ -16,7 +16,10 @@ pub fn lent_refusal(s: u8, owners: &[u8], send: &[u16], receive: &[u8], pool: &[
     if !shape_good(s, owners.len(), send.len(), receive.len(), pool.len()) {
         return 1;
     }
-    if all_below(owners, s) & all_bits(receive) & all_slots_good(s, owners.len(), pool) {
+    if !(all_below(owners, s) & all_bits(receive)) {
+        return 2;
+    }
+    if all_slots_good(s, owners.len(), pool) {
         return 0;
     }
     2

@@ -1,10 +1,10 @@
 // Opening (Document 01, What the host lends).
-use crate::bytes::all_below;
 use crate::shape::shape_good;
 use model::Answer;
 use model::Posted;
 use rules::answer::accepted;
 use rules::answer::refused;
+use scan::bytes::all_below;
 ghost use mathlib.Core.Path.{_≡_};
 ghost use Prim.Native.Nat.{_*_, _≤_};
 ghost use lib.ListN.{length, replicate};
