@@ -2,6 +2,7 @@
  * The desk for C. The parts of document 01 are named with each call, and the desk keeps none of them.
  * A length counts elements: counters of `send`, counts of a sheet, bytes of the others.
  * A null pointer with length 0 is an empty part; parts do not overlap.
+ * Counters and counts are aligned, as any uint16_t and uint32_t object is.
  */
 #ifndef POINTER_DESK_H
 #define POINTER_DESK_H

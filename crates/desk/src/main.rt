@@ -3,16 +3,15 @@ use libc::STDERR_FILENO;
 use libc::STDIN_FILENO;
 use libc::STDOUT_FILENO;
 
-// Where nothing came: a read that fails is told to the person, an empty input is not.
+// Where nothing came: whether the input can be read at all is asked by a read of no bytes, and told if not.
 fn tell_unreadable() {
-    let mut spare = [0u8; 1];
-    if libc::read(STDIN_FILENO, &mut spare) < 0 {
+    let mut none = [0u8; 0];
+    if libc::read(STDIN_FILENO, &mut none) < 0 {
         io::write_all(STDERR_FILENO, b"desk: the input cannot be read\n");
     }
 }
 
-// 8,193 bytes tell that an input is too long. A read that fails ends the input there, and what came is answered;
-// a reader that goes away ends the writing; either way the program ends.
+// 8,193 bytes tell that an input is too long; a read that fails ends the input, and a reader that goes away the writing.
 fn main() {
     let mut input = [0u8; 8193];
     let mut output = [0u8; 139264];

@@ -76,8 +76,8 @@ module _ {D : Type 0} (L : Layout D) where
   refused-by-a-row earlyRows tells d c = from-the-table (rowsOf L earlyRows d c) _ (call-exactly L earlyRows tells d c)
 
   -- The same of an opening.
-  pub refused-opening-by-a-row : (d : D) → openDesk L d .answer .number ≢ 0 → openDesk L d .answer .number among (1 ∷ 2 ∷ [])
-  refused-opening-by-a-row d = from-the-table (openRows L d) _ (open-exactly L d)
+  pub refused-opening-by-listed : (d : D) → openDesk L d .answer .number ≢ 0 → openDesk L d .answer .number among (1 ∷ 2 ∷ [])
+  refused-opening-by-listed d = from-the-table (openRows L d) _ (open-exactly L d)
 
   -- Where Held is what comes too early, it is one of those that document 01 lists for the call.
   pub refused-by-listed : TellsEarly L (heldRows L) → (d : D) (c : Call) → step L d c .answer .number ≢ 0 → step L d c .answer .number among listed c

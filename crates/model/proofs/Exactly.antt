@@ -90,18 +90,18 @@ module _ {D : Type 0} (L : Layout D) where
       front-rows d _ _ _ _ (two-names site (sites d) p (pointers d)) (two-names-back site (sites d) p (pointers d))
       (last-test 12 (not (eqb site (owner d p))) (site ≢ owner d p) (λ e. eqb-false _ _ (not-true _ e)) (not-equal-when _ _))
 
-  share-number : (d : D) (site p : ℕ) → FirstOf (shareRows L d site p) (shareNumber L d site p)
+  share-number : (d : D) (site p : ℕ) → FirstOf (lentRows L d (shareRows L d site p)) (shareNumber L d site p)
   unfolding shareNumber
   share-number d site p =
       front-rows d _ _ _ _ (two-names site (sites d) p (pointers d)) (two-names-back site (sites d) p (pointers d))
       (last-test 10 (eqb site (owner d p)) (site ≡ owner d p) (eqb-true _ _) (eq-eqb _ _))
 
   -- Share and sheet: the number is that of the first row whose reason holds.
-  pub share-exactly : (d : D) (site p : ℕ) → FirstOf (shareRows L d site p) (share L d site p .number)
+  pub share-exactly : (d : D) (site p : ℕ) → FirstOf (lentRows L d (shareRows L d site p)) (share L d site p .number)
   unfolding share
   share-exactly d site p = share-number d site p
 
-  pub sheet-exactly : (d : D) (p : ℕ) → FirstOf (sheetRows L d p) (sheetNumber L d p)
+  pub sheet-exactly : (d : D) (p : ℕ) → FirstOf (lentRows L d (sheetRows L d p)) (sheetNumber L d p)
   unfolding sheetNumber front
   sheet-exactly d p =
       lent-rows d _ _ (last-test 2 (not (ltb p (pointers d))) (pointers d ≤ p) (λ e. ltb-false _ _ (not-true _ e)) (λ l. false-when _ (le-ltb _ _ l)))

@@ -1,5 +1,5 @@
--- The three demands for the desk of document 01: the theorems over any lawful layout, at `flat`.
-use Prim.Native.Nat.{ℕ, _-_, _≤_, _<_}
+-- The three demands for the desk of document 01: the theorems over any lawful layout, at `flat`; those in words and of lines are document 01's alone.
+use Prim.Native.Nat.{ℕ, _+_, _-_, _≤_, _<_}
 use mathlib.Core.Path.{_≡_, refl}
 use mathlib.Core.Logic.{_≢_, _↔_}
 use mathlib.Core.Bool.{true}
@@ -8,7 +8,7 @@ use lib.Dec.{eqb}
 use lib.IntN.{pos}
 use lib.ListN.{length, getD}
 use Rattle.moreau.specs.StateSpace.{Msg, DEC, INC-DEC, ⟅_⟆, initial}
-use Rattle.moreau.specs.Transformers.{MayCopy, MayReceive, MayDelete}
+use Rattle.moreau.specs.Transformers.{assign, MayCopy, MayReceive, MayDelete}
 use Rattle.moreau.specs.Transitions.{PaperGuard}
 use Rattle.moreau.proofs.Guards.{paper-guard}
 use Rattle.model.specs.declared.Posted.the-variants.{Copy, Dec as Decr, IncDec, Nothing}
@@ -18,7 +18,9 @@ use Rattle.model.specs.declared.Read.the-variants.{Said}
 use Rattle.model.specs.declared.Next.the-variants.{Line}
 use Rattle.model.specs.Refusals.{_when_}
 use Rattle.model.specs.Answers.{accepted, refused}
-use Rattle.model.specs.Calls.{heldRefusal, lowestEmpty, lentRefusal, openDesk, replied, step}
+use Rattle.model.specs.Calls.{heldRefusal, lowestEmpty, lentRefusal, openDesk, replied, step, counterThere, cellThere}
+use Rattle.model.specs.Messages.{receiver, pointerOf, counterAfter, cellAfter}
+use Rattle.model.specs.Laws.{withSlot, Reads}
 use Rattle.model.specs.Survey.{inFlight, sharePlus, shareMinus, shareOf, sharesOfOthers, share, sheetNumber}
 use Rattle.model.specs.Tables.{Desk}
 use Rattle.model.specs.InWords.{Shaped, GoodTables}
@@ -26,7 +28,7 @@ use Rattle.model.specs.Flat.{flat}
 use Rattle.model.specs.Lines.{digitsOf, bytesOf, writeCall, readLine, nextAt}
 use Rattle.model.specs.Fields.{FieldsFit}
 use Rattle.model.specs.Meaning.{meant, meaning}
-use Rattle.model.specs.Demands.{FirstOf, _among_, listed, openRows, heldRows, rowsOf, TellsEarly, shareRows, sheetRows, LowestEmpty, names, controls, MakesCopy, Receives, Deletes, Reached, Quiet}
+use Rattle.model.specs.Demands.{FirstOf, _among_, listed, openRows, lentRows, heldRows, rowsOf, TellsEarly, shareRows, sheetRows, LowestEmpty, names, controls, MakesCopy, Receives, Deletes, Reached, Quiet}
 use Rattle.model.proofs.FlatLaws.{flat-laws}
 use Rattle.model.proofs.InWords as in-words
 use Rattle.model.proofs.MeaningLaws as meaning-laws
@@ -65,8 +67,8 @@ pub refused-by-listed : (d : Desk) (c : Call) → step flat d c .answer .number 
 refused-by-listed = demand-1.refused-by-listed flat tells
 
 -- The same of an opening; and an accepted one makes the initial configuration of the machine.
-pub refused-opening-by-a-row : (d : Desk) → openDesk flat d .answer .number ≢ 0 → openDesk flat d .answer .number among (1 ∷ 2 ∷ [])
-refused-opening-by-a-row = demand-1.refused-opening-by-a-row flat
+pub refused-opening-by-listed : (d : Desk) → openDesk flat d .answer .number ≢ 0 → openDesk flat d .answer .number among (1 ∷ 2 ∷ [])
+refused-opening-by-listed = demand-1.refused-opening-by-listed flat
 
 pub refused-opening-leaves-all : (d : Desk) → openDesk flat d .answer .number ≢ 0 → openDesk flat d ≡ record { answer = refused (openDesk flat d .answer .number); desk = d }
 refused-opening-leaves-all = demand-1.refused-opening-leaves-all flat
@@ -92,10 +94,10 @@ call-exactly = exactly.call-exactly flat (heldRows flat) tells
 pub open-exactly : (d : Desk) → FirstOf (openRows flat d) (openDesk flat d .answer .number)
 open-exactly = exactly.open-exactly flat
 
-pub share-exactly : (d : Desk) (site p : ℕ) → FirstOf (shareRows flat d site p) (share flat d site p .number)
+pub share-exactly : (d : Desk) (site p : ℕ) → FirstOf (lentRows flat d (shareRows flat d site p)) (share flat d site p .number)
 share-exactly = exactly.share-exactly flat
 
-pub sheet-exactly : (d : Desk) (p : ℕ) → FirstOf (sheetRows flat d p) (sheetNumber flat d p)
+pub sheet-exactly : (d : Desk) (p : ℕ) → FirstOf (lentRows flat d (sheetRows flat d p)) (sheetNumber flat d p)
 sheet-exactly = exactly.sheet-exactly flat
 
 -- An accepted make copy is MAKE_COPY, an accepted receive is RECEIVE under the published guard, an accepted delete is DELETE; ask changes nothing.
@@ -125,6 +127,24 @@ delete-answer = demand-2.delete-answer flat
 pub ask-answer : (d : Desk) (site p : ℕ) → step flat d (Ask site p) .answer .number ≡ 0
     → step flat d (Ask site p) .answer ≡ accepted (1 when eqb (flat .counter d (flat .owner d p) p) 0) Nothing
 ask-answer = demand-2.ask-answer flat
+
+-- What an accepted call leaves in every counter, every cell and every slot.
+pub copy-leaves : (d : Desk) (from to p : ℕ) → step flat d (MakeCopy from to p) .answer .number ≡ 0
+    → Reads flat d (step flat d (MakeCopy from to p) .desk)
+    (assign (flat .counter d) from p (flat .counter d from p + 1)) (flat .cell d) (withSlot (flat .message d) (lowestEmpty flat d) (Copy from to p))
+copy-leaves = placed.copy-leaves flat flat-laws
+
+pub delete-leaves : (d : Desk) (site p : ℕ) → step flat d (Delete site p) .answer .number ≡ 0
+    → Reads flat d (step flat d (Delete site p) .desk)
+    (flat .counter d) (assign (flat .cell d) site p 0) (withSlot (flat .message d) (lowestEmpty flat d) (Decr site (flat .owner d p) p))
+delete-leaves = placed.delete-leaves flat flat-laws
+
+pub receive-leaves : (d : Desk) (slot : ℕ) → step flat d (Receive slot) .answer .number ≡ 0 → let m = flat .message d slot in
+    Reads flat d (step flat d (Receive slot) .desk)
+    (assign (flat .counter d) (receiver m) (pointerOf m) (counterAfter m (counterThere flat d slot)))
+    (assign (flat .cell d) (receiver m) (pointerOf m) (cellAfter m (cellThere flat d slot)))
+    (withSlot (flat .message d) slot (replied flat d slot))
+receive-leaves = placed.receive-leaves flat flat-laws
 
 -- The slot that make copy and delete name is the lowest empty one; what a call posts stands in its slot.
 pub copy-takes-lowest : (d : Desk) (from to p : ℕ) → step flat d (MakeCopy from to p) .answer .number ≡ 0 → LowestEmpty flat d (step flat d (MakeCopy from to p) .answer .value)

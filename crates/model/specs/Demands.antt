@@ -101,6 +101,7 @@ module _ {D : Type 0} (L : Layout D) where
   heldRowsOf d (IncDec a b c p) = []
   heldRowsOf d Nothing = []
 
+  -- the same of a slot
   abbrev pub heldRows : D → ℕ → List Row
   heldRows d slot = heldRowsOf d (message d slot)
 
@@ -146,16 +147,16 @@ module _ {D : Type 0} (L : Layout D) where
   abbrev pub TellsEarly : (D → ℕ → List Row) → Type 1
   TellsEarly earlyRows = (d : D) (slot : ℕ) (rows : List Row) (rest : ℕ) → FirstOf rows rest → FirstOf (earlyRows d slot ++ rows) (early d slot orElse rest)
 
-  -- share 1, 2, 3, 11; sheet 1, 2, 3
+  -- share 3, 11
   abbrev pub shareRows : D → ℕ → ℕ → List Row
   shareRows d site p =
-      lentRows d
-      (BadName because ((sites d ≤ site) ⊎ (pointers d ≤ p))
+      BadName because ((sites d ≤ site) ⊎ (pointers d ≤ p))
       ∷ IsOwner because (site ≡ owner d p)
-      ∷ [])
+      ∷ []
 
+  -- sheet 3
   abbrev pub sheetRows : D → ℕ → List Row
-  sheetRows d p = lentRows d (BadName because (pointers d ≤ p) ∷ [])
+  sheetRows d p = BadName because (pointers d ≤ p) ∷ []
 
   -- ---- a slot is the lowest empty one
   pub record LowestEmpty (d : D) (slot : ℕ) : Type 0 where

@@ -23,15 +23,15 @@ eightAt bytes at =
 abbrev pub clear : ℕ → ℕ → Bool
 clear mask a = eqb (bitAnd a mask) 0
 
--- the top bit of each field of a slot, and the kind's bits above 3
+-- 0x100808080FC: the top bit of each field of a slot, and the kind's bits above 3
 abbrev pub slotMask : ℕ
 slotMask = 1101667533052
 
--- the bits of each of eight bytes but the lowest
+-- 0xFEFEFEFEFEFEFEFE: the bits of each of eight bytes but the lowest
 abbrev pub bitMask : ℕ
 bitMask = 18374403900871474942
 
--- by kind, what each field of a good slot lacks at most of its top bit: 128 - s for a site, 256 - g for the pointer, and 127 or 255 where they must be 0
+-- by kind, what may be added to each field of a good slot before it reaches the field's top bit: 128 - s at a site, 256 - g at the pointer, 127 or 255 where it must be 0
 abbrev pub rooms : ℕ → ℕ → List ℕ
 rooms s g =
     packed 0 127 127 127 255

@@ -28,7 +28,7 @@ pub fn all_below(bytes: &[u8], n: u8) -> bool
 fn only_bits(seen: u64) -> bool
     ensures { λ r. ⌜ r ≡ clear bitMask seen ⌝ }
 {
-    (seen & 18374403900871474942) == 0
+    (seen & 0xFEFE_FEFE_FEFE_FEFE) == 0
 }
 
 // What the first 32 q bytes show, in four streams of words, so that the compiler takes several at a step.

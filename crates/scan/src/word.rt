@@ -33,7 +33,8 @@ fn pack_eight(a: u64, b: u64, c: u64, d: u64, e: u64, f: u64, g: u64, h: u64) ->
     requires { ⌜ (a < 256) × (b < 256) × (c < 256) × (d < 256) × (e < 256) × (f < 256) × (g < 256) × (h < 256) ⌝ }
     ensures { λ r. ⌜ r ≡ eight a b c d e f g h ⌝ }
 {
-    (pack(a, b, c, d, e) + f * 1099511627776 + g * 281474976710656) | (h * 72057594037927936)
+    (pack(a, b, c, d, e) + f * 0x100_0000_0000 + g * 0x1_0000_0000_0000)
+        | (h * 0x100_0000_0000_0000)
 }
 
 // A byte as a field.
@@ -65,7 +66,7 @@ fn word_within(pool: &[u8], slot: usize) -> u64
     requires { ⌜ slot * 5 + 8 ≤ length (now pool) ⌝ }
     ensures { λ r. ⌜ (r ≡ atSlot packed (now (pool .entry)) slot) × (r < 1099511627776) ⌝ }
 {
-    eight_at(pool, slot * 5) % 1099511627776
+    eight_at(pool, slot * 5) % 0x100_0000_0000
 }
 
 // A slot as one number, wherever it stands.
@@ -188,5 +189,5 @@ pub fn all_slots_good(s: u8, g: usize, pool: &[u8]) -> bool
     let first = groups_shown(&room, pool, groups);
     let most = rest_shown(&room, pool, groups * 4, last, first);
     let seen = most | shown(&room, word_at(pool, last));
-    (seen & 1101667533052) == 0
+    (seen & 0x100_8080_80FC) == 0
 }
