@@ -39,8 +39,11 @@ enum {
     DESK_NOT_LISTED = 20
 };
 
-/* What the host lends: the bytes of a slot. Share and sheet: the counts of a sheet. Lines: the output of a run. */
-enum { DESK_SLOT_BYTES = 5, DESK_SHEET_COUNTS = 192, DESK_RUN_ROOM = 139264 };
+/* What the host lends: the bytes of a slot. Share and sheet: the counts of a sheet. */
+enum { DESK_SLOT_BYTES = 5, DESK_SHEET_COUNTS = 192 };
+
+/* Lines: the bytes of a call, the characters of its line with the newline, the output of a run. */
+enum { DESK_CALL_BYTES = 4, DESK_LINE_CHARACTERS = 9, DESK_RUN_ROOM = 139264 };
 
 /* The calls: a refusal number (0: accepted), a value, and the posted message as slot bytes (all 0: none). */
 typedef struct {
@@ -61,6 +64,14 @@ typedef struct {
     size_t at;
     size_t length;
 } desk_part;
+
+/* Lines: a refusal number, 1 where the reader has ended, the call's four bytes (all 0: none), and where it stands then. */
+typedef struct {
+    uint8_t number;
+    uint8_t ended;
+    uint8_t call[DESK_CALL_BYTES];
+    size_t at;
+} desk_line;
 
 /* What the host lends: an opening. */
 desk_answer desk_open(uint8_t sites, const uint8_t *owners, size_t owners_len,
@@ -109,6 +120,15 @@ desk_answer desk_book_check(uint8_t sites, const uint8_t *owners, size_t owners_
 desk_answer desk_book_search(uint8_t sites, const uint8_t *owners, size_t owners_len,
                              const uint8_t *book, size_t book_len,
                              uint8_t owner, const uint8_t *address, size_t address_len);
+
+/*
+ * Lines: the call of four bytes, as a line at the start of a text; the rest of the text stays.
+ * 15, 16 or 14 where the bytes are no call, then 1 where the text is shorter than 9; then nothing is written.
+ */
+desk_answer desk_line_write(uint8_t code, uint8_t a, uint8_t b, uint8_t c, uint8_t *text, size_t text_len);
+
+/* Lines: what the reader that stands at a place of a text answers; at any place from the end on it has ended, and stays. */
+desk_line desk_line_read(const uint8_t *text, size_t text_len, size_t at);
 
 /*
  * Lines: the program `desk` as a call: bytes written; nothing and 0 where the output has less than 139,264 bytes.

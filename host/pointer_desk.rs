@@ -75,6 +75,16 @@ pub type Answer = Result<Accepted, Refusal>;
 // Rows for COPY, DEC and INC_DEC, with a column for each site (document 01, Share and sheet).
 pub type Sheet = [[u32; 64]; 3];
 
+// The four bytes of a call (document 01, Lines).
+pub type CallBytes = [u8; 4];
+
+// What a reader answers: what the line at its place says, and the place past it; or that it has ended, and stays.
+#[derive(Clone, Copy, Debug, PartialEq, Eq)]
+pub enum Next {
+    Line { said: Result<CallBytes, Refusal>, at: usize },
+    Ended,
+}
+
 // How long the output of a run must be.
 pub const RUN_ROOM: usize = 139_264;
 
@@ -113,6 +123,14 @@ struct CPart {
     number: u8,
     at: usize,
     length: usize,
+}
+
+#[repr(C)]
+struct CLine {
+    number: u8,
+    ended: u8,
+    call: CallBytes,
+    at: usize,
 }
 
 #[rustfmt::skip]
@@ -157,6 +175,8 @@ extern "C" {
         sites: u8, owners: *const u8, owners_len: usize, book: *const u8, book_len: usize,
         owner: u8, address: *const u8, address_len: usize,
     ) -> CAnswer;
+    fn desk_line_write(code: u8, a: u8, b: u8, c: u8, text: *mut u8, text_len: usize) -> CAnswer;
+    fn desk_line_read(text: *const u8, text_len: usize, at: usize) -> CLine;
     fn desk_run(input: *const u8, input_len: usize, output: *mut u8, output_len: usize) -> usize;
 }
 
@@ -277,6 +297,23 @@ impl<'a> Book<'a> {
     pub fn search(&self, owner: u8, address: &[u8]) -> Answer {
         answer(asking!(desk_book_search, self, owner, address.as_ptr(), address.len()))
     }
+}
+
+// A call as a line at the start of a text: eight digits and a newline.
+pub fn write_line(call: CallBytes, text: &mut [u8]) -> Answer {
+    let [code, a, b, c] = call;
+    // Safe: the pointer is a slice's, with that slice's own length, and `&mut` lets nobody else at it.
+    answer(unsafe { desk_line_write(code, a, b, c, text.as_mut_ptr(), text.len()) })
+}
+
+// What the reader that stands at a place of a text answers.
+pub fn read_line(text: &[u8], at: usize) -> Next {
+    // Safe: the pointer is a slice's, with that slice's own length, and the call takes it as const.
+    let line = unsafe { desk_line_read(text.as_ptr(), text.len(), at) };
+    if line.ended != 0 {
+        return Next::Ended;
+    }
+    Next::Line { said: unless_refused(line.number, || line.call), at: line.at }
 }
 
 // The program `desk` as a call: what it wrote, or none where the output is shorter than RUN_ROOM.

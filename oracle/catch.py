@@ -5,6 +5,7 @@ import wrong_machine
 import wrong_tables
 from cases_store import stored_cases
 from lent_tables import lent_lines
+from line_calls import line_call_lines
 from patched import load
 from random_runs import numbered_input
 
@@ -14,10 +15,11 @@ SEED = "mutants"
 class Evidence:
     """What wrong desks are tried against; all of it comes from the true program or by hand."""
 
-    def __init__(self, inputs, lent_calls):
+    def __init__(self, inputs, lent_calls, line_calls):
         self.cases = stored_cases()
         self.inputs = [("input %d" % number,) + numbered_input(SEED, number) for number in range(inputs)]
         self.lent_lines = list(lent_lines(SEED, lent_calls))
+        self.line_calls = list(line_call_lines(SEED, line_calls))
 
 
 def all_mutants():
@@ -61,6 +63,8 @@ def tries_for(mutant, evidence):
     tries = []
     if not touched or not touched <= {"lines", "program"}:
         tries.append(("lent tables", lambda: first_lent(modules, evidence.lent_lines)))
+    if not touched or touched & {"lines", "lent_text"}:
+        tries.append(("lent texts", lambda: first_lent(modules, evidence.line_calls)))
     if touched != {"book"}:
         tries.append(("cases", lambda: first_case(modules, evidence.cases)))
         tries.append(("random inputs", lambda: first_case(modules, evidence.inputs)))

@@ -3,7 +3,9 @@
 from collections import namedtuple
 
 import book
+import lines
 import tables
+from desk import Answer
 from tables import Lent, slot_bytes
 
 UNTOUCHED_COUNT = 0xA5A5A5A5
@@ -11,13 +13,16 @@ UNTOUCHED_COUNT = 0xA5A5A5A5
 # A call of the C boundary: its name, what is lent, and the call's own arguments.
 LentCall = namedtuple("LentCall", "name parts arguments")
 BookParts = namedtuple("BookParts", "sites owners book")
+TextPart = namedtuple("TextPart", "text")
 
 # How each argument is written: digits of a number, decimal, or a part.
 ARGUMENT_FORMS = {
     "open": (), "copy": ("02X", "02X", "02X"), "receive": ("04X",), "delete": ("02X", "02X"),
     "ask": ("02X", "02X"), "share": ("02X", "02X"), "sheet": ("02X", "d"),
-    "address": ("02X",), "check": (), "search": ("02X", "part")}
+    "address": ("02X",), "check": (), "search": ("02X", "part"),
+    "write": ("02X", "02X", "02X", "02X"), "read": ("d",)}
 BOOK_CALLS = ("address", "check", "search")
+LINE_CALLS = ("write", "read")
 PLAIN_CALLS = {
     "open": tables.lent_open, "copy": tables.lent_make_copy, "receive": tables.lent_receive,
     "delete": tables.lent_delete, "ask": tables.lent_ask}
@@ -53,16 +58,26 @@ def book_texts(parts, empty):
     return ["%02X" % parts.sites, part_text(parts.owners, empty()), part_text(parts.book, empty())]
 
 
+def line_texts(parts, empty):
+    return [part_text(parts.text, empty())]
+
+
+def texts_of(call):
+    """How what is lent to a call is written."""
+    if call.name in LINE_CALLS:
+        return line_texts
+    return book_texts if call.name in BOOK_CALLS else lent_texts
+
+
 def argument_text(form, argument, empty):
     return part_text(argument, empty()) if form == "part" else format(argument, form)
 
 
 def question_text(call, empty=lambda: "-"):
     """What is lent and the call, in words of one line."""
-    texts = book_texts if call.name in BOOK_CALLS else lent_texts
     arguments = [argument_text(form, argument, empty)
                  for form, argument in zip(ARGUMENT_FORMS[call.name], call.arguments)]
-    return " ".join([call.name] + texts(call.parts, empty) + arguments)
+    return " ".join([call.name] + texts_of(call)(call.parts, empty) + arguments)
 
 
 def read_argument(form, text):
@@ -71,19 +86,23 @@ def read_argument(form, text):
     return int(text, 10 if form == "d" else 16)
 
 
+def read_lent(name, words):
+    """What is lent to a call, and the words behind it."""
+    if name in LINE_CALLS:
+        return TextPart(read_part(words[0])), words[1:]
+    sites = int(words[0], 16)
+    if name in BOOK_CALLS:
+        return BookParts(sites, *map(read_part, words[1:3])), words[3:]
+    owners, send, receive, pool = words[1:5]
+    return Lent(sites, read_part(owners), read_counters(send), read_part(receive),
+                read_part(pool)), words[5:]
+
+
 def read_question(text):
     """The call that a question stands for."""
-    name, sites, *rest = text.split(" ")
-    if name in BOOK_CALLS:
-        parts = BookParts(int(sites, 16), *map(read_part, rest[:2]))
-        rest = rest[2:]
-    else:
-        owners, send, receive, pool = rest[:4]
-        parts = Lent(int(sites, 16), read_part(owners), read_counters(send),
-                     read_part(receive), read_part(pool))
-        rest = rest[4:]
-    forms = ARGUMENT_FORMS[name]
-    return LentCall(name, parts, tuple(map(read_argument, forms, rest)))
+    name, *words = text.split(" ")
+    parts, words = read_lent(name, words)
+    return LentCall(name, parts, tuple(map(read_argument, ARGUMENT_FORMS[name], words)))
 
 
 def plain_answer_text(answer):
@@ -128,7 +147,19 @@ def book_answer_text(call):
     return plain_answer_text(book.search(*call.parts, *call.arguments)) + " = = ="
 
 
+def line_answer_text(call):
+    """The answer of the line writer or reader, and the whole text after it."""
+    if call.name == "read":
+        answer = lines.lent_read(call.parts.text, *call.arguments)
+        return "%02X %02X %s %d =" % (answer.number, answer.ended, part_text(answer.call), answer.at)
+    text = bytearray(call.parts.text)
+    answer = Answer(lines.lent_write(call.arguments, text), 0, None)
+    return plain_answer_text(answer) + " " + ("=" if text == call.parts.text else part_text(text))
+
+
 def answer_text(call):
+    if call.name in LINE_CALLS:
+        return line_answer_text(call)
     return book_answer_text(call) if call.name in BOOK_CALLS else table_answer_text(call)
 
 

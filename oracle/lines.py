@@ -15,6 +15,9 @@ Ask = namedtuple("Ask", "site pointer")
 # What a reader answers besides a call: a refused line, or that the text has ended.
 Refusal = namedtuple("Refusal", "number")
 Ended = namedtuple("Ended", "")
+# The same as C has it: 1 in `ended` where the text has ended, and where the reader stands then.
+ReadLine = namedtuple("ReadLine", "number ended call at")
+NO_CALL = bytes(4)
 
 
 def bytes_to_digits(data):
@@ -73,14 +76,19 @@ def call_of_line(line):
     return Delete(first, second) if code == 0x03 else Ask(first, second)
 
 
+def bytes_of_call(call):
+    """The four bytes of a call."""
+    if isinstance(call, MakeCopy):
+        return bytes((0x01,) + tuple(call))
+    if isinstance(call, Receive):
+        return bytes((0x02, call.slot >> 8, call.slot & 255, 0x00))
+    code = 0x03 if isinstance(call, Delete) else 0x04
+    return bytes((code, call.site, call.pointer, 0x00))
+
+
 def line_of_call(call):
     """The eight digits of a call."""
-    if isinstance(call, MakeCopy):
-        return bytes_to_digits((0x01,) + tuple(call))
-    if isinstance(call, Receive):
-        return bytes_to_digits((0x02, call.slot >> 8, call.slot & 255, 0x00))
-    code = 0x03 if isinstance(call, Delete) else 0x04
-    return bytes_to_digits((code, call.site, call.pointer, 0x00))
+    return bytes_to_digits(bytes_of_call(call))
 
 
 def write_line(call, text):
@@ -114,3 +122,20 @@ class Reader:
         """The next call or refusal; at the end, that the text has ended, and it stays there."""
         line = self.next_line()
         return Ended() if line is None else call_of_line(line)
+
+
+def lent_write(four, text):
+    """The call of four bytes, as the reader takes them, at the start of lent text: 15, 16, 14, then 1."""
+    call = call_of_line(bytes_to_digits(four))
+    return call.number if isinstance(call, Refusal) else write_line(call, text)
+
+
+def lent_read(text, at):
+    """What a reader that stands at a place answers, and where it stands then."""
+    reader = Reader(text, at)
+    call = reader.next_call()
+    if isinstance(call, Ended):
+        return ReadLine(ACCEPTED, 1, NO_CALL, reader.position)
+    if isinstance(call, Refusal):
+        return ReadLine(call.number, 0, NO_CALL, reader.position)
+    return ReadLine(ACCEPTED, 0, bytes_of_call(call), reader.position)

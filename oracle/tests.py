@@ -8,6 +8,7 @@ import claims
 import every_state
 import lent_tables
 import lent_text
+import line_calls
 import lines
 import program
 import random_runs
@@ -21,7 +22,7 @@ from lent_fixed import tables_of
 from lines import Ask, Delete, Ended, MakeCopy, Reader, Receive, Refusal
 from patched import Mutant, load
 
-REDUCED = dict(inputs=3, lent_calls=420)
+REDUCED = dict(inputs=3, lent_calls=420, line_calls=3700)
 CLAIM_SEEDS = (1, 2, 3)
 
 
@@ -91,6 +92,50 @@ def test_reader():
         yield "at %d" % position, (reader.next_call(), reader.position) == (call, position)
     yield "past the end", Reader(b"01000100", 99).next_call() == Ended()
     yield "no text", Reader(b"").next_call() == Ended()
+
+
+def test_lent_writer():
+    """The writer of four bytes: 15, 16, 14, then 1, and nothing is written."""
+    def written(four, length):
+        text = bytearray(b"." * length)
+        return lines.lent_write(four, text), bytes(text)
+    yield "written", written((1, 0xAB, 0xCD, 0xEF), 12) == (0, b"01ABCDEF\n...")
+    yield "exact", written((4, 0, 255, 0), 9) == (0, b"0400FF00\n")
+    yield "short", written((4, 0, 255, 0), 8) == (1, b"." * 8)
+    yield "no text", written((4, 0, 255, 0), 0) == (1, b"")
+    yield "unknown", [written((code, 0, 0, 1), 3)[0] for code in (0, 5, 0x7F)] == [15] * 3
+    yield "private", [written((code, 0, 0, 1), 3)[0] for code in (0x80, 0xFF)] == [16] * 2
+    yield "last byte", [written((code, 0, 0, 1), 3)[0] for code in (1, 2, 3, 4)] == [1, 14, 14, 14]
+    for code in range(256):
+        number, text = written((code, 1, 2, 0), 9)
+        expected = 0 if 1 <= code <= 4 else 16 if code >= 128 else 15
+        yield "code %d" % code, number == expected and (text != b"." * 9) == (number == 0)
+
+
+def test_lent_reader():
+    """The reader at any place: where it stands then, and an end that is no refusal."""
+    text = b"01000100\n\n04000001\n0400FF00"
+    expected = {0: (0, 0, b"\1\0\1\0", 9), 1: (14, 0, bytes(4), 9), 8: (14, 0, bytes(4), 9),
+                9: (14, 0, bytes(4), 10), 10: (14, 0, bytes(4), 19), 19: (0, 0, b"\4\0\xff\0", 27),
+                27: (0, 1, bytes(4), 27), 28: (0, 1, bytes(4), 28), 2 ** 64 - 1: (0, 1, bytes(4), 2 ** 64 - 1)}
+    for at, answer in expected.items():
+        yield "at %d" % at, lines.lent_read(text, at) == answer
+    yield "no text", lines.lent_read(b"", 0) == (0, 1, bytes(4), 0)
+    yield "codes", [lines.lent_read(b"%02X000001" % code, 0)[0] for code in (0, 1, 2, 5, 128)] == [15, 0, 14, 15, 16]
+
+
+def test_line_calls():
+    """Line calls come back the same from their text; what is written is read back from any place."""
+    for number, line in enumerate(line_calls.line_call_lines("test", 6000)):
+        yield "call %d" % number, lent_text.judge(line) is None
+    rng = random_runs.rng_for("written and read")
+    for number in range(500):
+        four, before = line_calls.random_four(rng), b"x" * rng.randint(0, 5)
+        text = bytearray(9)
+        if lines.lent_write(four, text) == 0:
+            end = len(before) + 9
+            yield "read back %d" % number, lines.lent_read(before + text + b"\n", len(before)) == (
+                0, 0, bytes(four), end)
 
 
 def test_document_numbers():

@@ -11,6 +11,13 @@ POSITION = "        self.position = min(end + 1, len(self.text))\n"
 LINE_TEXT = "        return bytes(self.text[start:end])\n"
 STOP = "    if answer.number != ACCEPTED:\n        return b\"\".join(output)\n"
 ANSWERED = "        output.append(answer_line(answer_to(desk, call)))\n"
+WRITTEN = "    written = line_of_call(call) + bytes([NEWLINE])\n"
+SHORT = "    if len(text) < len(written):\n        return BAD_SHAPE\n"
+WRITE = "    text[:len(written)] = written\n"
+WRITE_CALL = "    return call.number if isinstance(call, Refusal) else write_line(call, text)\n"
+READ_ENDED = "        return ReadLine(ACCEPTED, 1, NO_CALL, reader.position)\n"
+READ_REFUSED = "        return ReadLine(call.number, 0, NO_CALL, reader.position)\n"
+READ_CALL = "    return ReadLine(ACCEPTED, 0, bytes_of_call(call), reader.position)\n"
 
 
 def characters():
@@ -155,6 +162,92 @@ def programs():
                "        if not isinstance(call, Refusal):\n    " + ANSWERED)]
 
 
+def lent_writers():
+    """The line writer over a lent text."""
+    return [
+        mutant("writer: 14 for a short text", "lines", SHORT, SHORT.replace("BAD_SHAPE", "BAD_LINE")),
+        mutant("writer: 1 for a short text, which is written as far as it goes", "lines", SHORT,
+               "    if len(text) < len(written):\n        text[:] = written[:len(text)]\n"
+               "        return BAD_SHAPE\n"),
+        mutant("writer: a short text is cut off and accepted", "lines", SHORT + WRITE,
+               "    text[:] = (written + text[len(written):])[:len(text)]\n"),
+        mutant("writer: a short text is cleared", "lines", SHORT,
+               "    if len(text) < len(written):\n        text[:] = bytes(len(text))\n"
+               "        return BAD_SHAPE\n"),
+        mutant("writer: the line is left without its newline", "lines", WRITTEN,
+               "    written = line_of_call(call)\n"),
+        mutant("writer: nine bytes are wanted, eight are written", "lines", WRITE,
+               "    text[:LINE_DIGITS] = written[:LINE_DIGITS]\n"),
+        mutant("writer: a carriage return before the newline", "lines", WRITTEN,
+               "    written = line_of_call(call) + b'\\r\\n'\n"),
+        mutant("writer: a NUL byte behind the newline", "lines", WRITTEN,
+               "    written = line_of_call(call) + b'\\n\\0'\n"),
+        mutant("writer: a text of nine bytes is too short", "lines", SHORT, SHORT.replace("<", "<=")),
+        mutant("writer: digits in lower case", "lines", WRITTEN,
+               "    written = line_of_call(call).lower() + bytes([NEWLINE])\n"),
+        mutant("writer: what is past the line is cleared", "lines", WRITE,
+               "    text[:] = written.ljust(len(text), b'\\0')\n"),
+        mutant("writer: at the end of the text", "lines", WRITE, "    text[-len(written):] = written\n"),
+        mutant("writer: 1 before 15, 16 and 14", "lines", WRITE_CALL,
+               "    if len(text) <= LINE_DIGITS:\n        return BAD_SHAPE\n" + WRITE_CALL),
+        mutant("writer: 1 before 14", "lines", WRITE_CALL,
+               "    if len(text) <= LINE_DIGITS and call == Refusal(BAD_LINE):\n"
+               "        return BAD_SHAPE\n" + WRITE_CALL),
+        mutant("writer: every last byte is taken", "lines", WRITE_CALL,
+               "    if call == Refusal(BAD_LINE):\n        call = call_of_line(bytes_to_digits(four[:3] + (0,)))\n"
+               + WRITE_CALL),
+        mutant("writer: a refused call is written", "lines", WRITE_CALL,
+               "    if isinstance(call, Refusal) and len(text) > LINE_DIGITS:\n"
+               "        text[:LINE_DIGITS] = bytes_to_digits(four)\n" + WRITE_CALL),
+        mutant("writer: the value is how much is written", "lent_text",
+               "Answer(lines.lent_write(call.arguments, text), 0, None)",
+               "(lambda n: Answer(n, 0 if n else 9, None))(lines.lent_write(call.arguments, text))")]
+
+
+def lent_readers():
+    """The line reader at any place of a lent text."""
+    stays = ", at)\n"
+    return [
+        mutant("reader: stays where it is after a line", "lines", READ_CALL,
+               READ_CALL.replace(", reader.position)\n", stays)),
+        mutant("reader: stays where it is after a refused line", "lines", READ_REFUSED,
+               READ_REFUSED.replace(", reader.position)\n", stays)),
+        mutant("reader: past the end it moves to the end", "lines", READ_ENDED,
+               READ_ENDED.replace("reader.position", "len(text)")),
+        mutant("reader: past the end it moves to the start", "lines", READ_ENDED,
+               READ_ENDED.replace("reader.position", "at if at == len(text) else 0")),
+        mutant("reader: past the end it goes on", "lines", READ_ENDED,
+               READ_ENDED.replace("reader.position", "min(at + 1, 2 ** 64 - 1)")),
+        mutant("reader: the end is told as a refusal", "lines", READ_ENDED,
+               READ_ENDED.replace("ACCEPTED, 1", "BAD_LINE, 1")),
+        mutant("reader: the end is told as a refused line and no end", "lines", READ_ENDED,
+               READ_ENDED.replace("ACCEPTED, 1", "BAD_LINE, 0")),
+        mutant("reader: the end is told as a call", "lines", READ_ENDED,
+               READ_ENDED.replace("ACCEPTED, 1", "ACCEPTED, 0")),
+        mutant("reader: past the end is a refusal, at the end it has ended", "lines", READ_ENDED,
+               READ_ENDED.replace("ACCEPTED, 1", "BAD_SHAPE if at > len(text) else ACCEPTED, 1")),
+        mutant("reader: past the end counts from the start again", "lines",
+               "    reader = Reader(text, at)\n",
+               "    reader = Reader(text, at % (len(text) + 1))\n"),
+        mutant("reader: the last line tells the end too", "lines", READ_CALL,
+               READ_CALL.replace("ACCEPTED, 0", "ACCEPTED, int(reader.position == len(text))")),
+        mutant("reader: a refused last line tells the end too", "lines", READ_REFUSED,
+               READ_REFUSED.replace("number, 0", "number, int(reader.position == len(text))")),
+        mutant("reader: a refused line tells its bytes", "lines", READ_REFUSED,
+               READ_REFUSED.replace("NO_CALL", "digits_to_bytes(text[at:at + 8]).ljust(4, b'\\0')")),
+        mutant("reader: always at the start of the text", "lines", "    reader = Reader(text, at)\n",
+               "    reader = Reader(text, at if at >= len(text) else 0)\n"),
+        mutant("reader: at the start of the line that the place is in", "lines",
+               "    reader = Reader(text, at)\n",
+               "    reader = Reader(text, at if at >= len(text) else text.rfind(b'\\n', 0, at) + 1)\n"),
+        mutant("reader: places in 32 bits", "lines", "    reader = Reader(text, at)\n",
+               "    reader = Reader(text, at % 2 ** 32)\n"),
+        mutant("reader: a text's end in the middle of a line is one past it", "lines", POSITION,
+               "        self.position = end + 1\n"),
+        mutant("reader: an accepted line tells its characters", "lines", READ_CALL,
+               READ_CALL.replace("bytes_of_call(call)", "text[at:at + 4]"))]
+
+
 def all_mutants():
-    groups = (characters, codes, line_orders, readers, openings, programs)
+    groups = (characters, codes, line_orders, readers, openings, programs, lent_writers, lent_readers)
     return [found for group in groups for found in group()]

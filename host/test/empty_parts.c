@@ -133,6 +133,14 @@ static void books(void) {
     ACCEPTED(desk_book_search(1, OWNERS, BOOK, 0, book + 1, 2), 0);
 }
 
+static void lines(void) {
+    REFUSED(desk_line_write(1, 0, 1, 0, NO), DESK_BAD_SHAPE);
+    REFUSED(desk_line_write(0, 0, 1, 0, NO), DESK_UNKNOWN_CODE);
+    desk_line at_start = desk_line_read(NO, 0), later = desk_line_read(NO, 7);
+    expect("the reader of no text has ended", at_start.ended == 1 && at_start.number == 0 && at_start.at == 0);
+    expect("and stays where it stands", later.ended == 1 && later.number == 0 && later.at == 7);
+}
+
 static void runs(void) {
     static uint8_t output[DESK_RUN_ROOM];
     expect("a run of nothing", desk_run(NO, output, sizeof output) == 0 && !output[0]);
@@ -147,6 +155,7 @@ int main(void) {
     one_part_of_a_sheet();
     no_pool();
     books();
+    lines();
     runs();
     printf("%d passed, %d failed\n", passed, failed);
     return failed != 0 || passed == 0;

@@ -1,4 +1,4 @@
-// What pointer_desk.rs keeps to itself: the layouts of its three C structs, and numbers and messages that nobody lists.
+// What pointer_desk.rs keeps to itself: the layouts of its four C structs, and numbers and messages that nobody lists.
 #[allow(dead_code)]
 mod module {
     use std::mem::{align_of, size_of};
@@ -15,10 +15,11 @@ mod module {
 
     // The lines that layout.c prints.
     pub fn layouts() {
-        let (a, s, p) = (
+        let (a, s, p, l) = (
             CAnswer { number: 0, value: 0, message: [0; 5] },
             CShare { number: 0, share: 0 },
             CPart { number: 0, at: 0, length: 0 },
+            CLine { number: 0, ended: 0, call: [0; 4], at: 0 },
         );
         whole::<CAnswer>("answer");
         place("number", &a, &a.number);
@@ -33,6 +34,12 @@ mod module {
         place("number", &p, &p.number);
         place("at", &p, &p.at);
         place("length", &p, &p.length);
+        println!();
+        whole::<CLine>("line");
+        place("number", &l, &l.number);
+        place("ended", &l, &l.ended);
+        place("call", &l, &l.call);
+        place("at", &l, &l.at);
         println!();
     }
 

@@ -1,4 +1,4 @@
-/* The three answers as C lays them out: size, alignment, and the place of each field. */
+/* The four answers as C lays them out: size, alignment, and the place of each field. */
 #include <stdio.h>
 
 #include "pointer_desk.h"
@@ -12,6 +12,8 @@ int main(void) {
     WHOLE("share", desk_share_answer), PLACE(desk_share_answer, number), PLACE(desk_share_answer, share);
     putchar('\n');
     WHOLE("part", desk_part), PLACE(desk_part, number), PLACE(desk_part, at), PLACE(desk_part, length);
+    putchar('\n');
+    WHOLE("line", desk_line), PLACE(desk_line, number), PLACE(desk_line, ended), PLACE(desk_line, call), PLACE(desk_line, at);
     putchar('\n');
     return 0;
 }

@@ -6,9 +6,9 @@
 
 #include "pointer_desk.h"
 
-enum { MOST_WORDS = 24, SHEET = 192 };
+enum { MOST_WORDS = 24, SHEET = 192, BEYOND = 16 };
 
-/* A lent part: its bytes in a block of their own, and a copy of what it held. */
+/* A lent part: its bytes in a block of their own, with bytes beyond that are looked at too, and a copy of what it held. */
 typedef struct {
     void *now;
     void *before;
@@ -58,9 +58,11 @@ static unsigned number(void) {
     return number_at(w, strlen(w));
 }
 
+/* A block of that many bytes, and some beyond that nobody may write. */
 static void *block(size_t bytes) {
-    void *b = malloc(bytes ? bytes : 1);
+    uint8_t *b = malloc(bytes + BEYOND);
     if (!b) stop("no memory");
+    memset(b + bytes, 0xA5, BEYOND);
     return b;
 }
 
@@ -93,14 +95,14 @@ static part lend(size_t width) {
     return p;
 }
 
-/* Whether the part holds what the next word says. */
+/* Whether the part holds what the next word says, and what is beyond it is kept. */
 static int holds(part p) {
     const char *w = word();
-    if (!strcmp(w, "=")) return !p.len || !memcmp(p.now, p.before, p.len * p.width);
-    if (length_of(w, p.width) != p.len) return 0;
-    if (!p.len) return 1;
+    size_t all = p.len * p.width + BEYOND;
+    if (!strcmp(w, "=")) return !p.now || !memcmp(p.now, p.before, all);
+    if (length_of(w, p.width) != p.len || !p.now) return 0;
     void *wanted = values(w, p.width, p.len);
-    int same = !memcmp(p.now, wanted, p.len * p.width);
+    int same = !memcmp(p.now, wanted, all);
     free(wanted);
     return same;
 }
@@ -141,6 +143,7 @@ static int is_sheet(const uint32_t *sheet, size_t len) {
     int same = 1, kept = !strcmp(w, "=");
     if (!kept && (len != SHEET || strlen(w) != 4 * SHEET)) stop("a sheet of other than 192 counts");
     for (size_t i = 0; i < len; i++) same &= sheet[i] == (kept ? 0xA5A5A5A5u : number_at(w + 4 * i, 4));
+    for (size_t i = len; i < len + BEYOND / sizeof *sheet; i++) same &= sheet[i] == 0xA5A5A5A5u;
     return same;
 }
 
@@ -224,12 +227,43 @@ static int book_line(const char *name) {
     return same;
 }
 
+static int write_call(part text) {
+    uint8_t code = (uint8_t)number(), a = (uint8_t)number(), b = (uint8_t)number(), c = (uint8_t)number();
+    past_question();
+    return is_answer(desk_line_write(code, a, b, c, text.now, text.len));
+}
+
+/* Whether a line as read is the next four words. */
+static int is_line(desk_line a) {
+    int same = a.number == number();
+    same &= a.ended == number();
+    const char *w = word();
+    if (strlen(w) != 8) stop("a call of other than eight digits");
+    for (int i = 0; i < 4; i++) same &= a.call[i] == number_at(w + 2 * i, 2);
+    return same & (a.at == strtoull(word(), NULL, 10));
+}
+
+static int read_call(part text) {
+    size_t at = strtoull(word(), NULL, 10);
+    past_question();
+    return is_line(desk_line_read(text.now, text.len, at));
+}
+
+static int text_line(const char *name) {
+    part text = lend(1);
+    int same = strcmp(name, "read") ? write_call(text) : read_call(text);
+    same &= holds(text);
+    give_back(text);
+    return same;
+}
+
 /* One line: whether answer and memory are what it says. */
 static int is_right(char *line) {
     split(line);
     const char *name = word();
     int of_book = !strcmp(name, "address") || !strcmp(name, "check") || !strcmp(name, "search");
-    int same = of_book ? book_line(name) : machine_line(name);
+    int of_text = !strcmp(name, "write") || !strcmp(name, "read");
+    int same = of_text ? text_line(name) : of_book ? book_line(name) : machine_line(name);
     if (next_word != word_count) stop("a line with words left over");
     return same;
 }

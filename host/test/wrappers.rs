@@ -4,7 +4,7 @@
 mod pointer_desk;
 
 use pointer_desk::Message::{Copy, Dec, IncDec};
-use pointer_desk::{run, Accepted, Answer, Book, Lent, Refusal, Sheet, RUN_ROOM};
+use pointer_desk::{read_line, run, write_line, Accepted, Answer, Book, Lent, Next, Refusal, Sheet, RUN_ROOM};
 
 struct Tally {
     passed: usize,
@@ -153,6 +153,35 @@ fn empty_slices(t: &mut Tally) {
     t.expect("an empty book, search", book.search(0, &[]) == Err(Refusal::NotListed));
 }
 
+// Document 01, Lines: a call as a line, and the reader at a place.
+fn lines(t: &mut Tally) {
+    for call in [[1, 0, 63, 255], [2, 3, 255, 0], [3, 42, 9, 0], [4, 0, 171, 0]] {
+        let mut text = *b"--------------";
+        t.expect("a call is written", write_line(call, &mut text) == accepted(0));
+        let digits: String = call.iter().map(|byte| format!("{:02X}", byte)).collect();
+        t.expect("its line", text[..8] == *digits.as_bytes() && text[8..] == *b"\n-----");
+        t.expect("and it is read", read_line(&text, 0) == Next::Line { said: Ok(call), at: 9 });
+        for length in 0..9 {
+            let mut short = text;
+            t.expect("a short text", write_line([1, 7, 7, 7], &mut short[..length]) == Err(Refusal::BadShape));
+            t.expect("stays", short == text);
+        }
+    }
+    let refusals = [([0, 0, 0, 0], Refusal::UnknownCode), ([128, 0, 0, 0], Refusal::PrivateCode), ([2, 0, 0, 1], Refusal::BadLine)];
+    for (call, why) in refusals {
+        let mut text = *b"---------";
+        t.expect("no call", write_line(call, &mut text) == Err(why) && text == *b"---------");
+        t.expect("no call, no text", write_line(call, &mut []) == Err(why));
+    }
+    let text = b"00000000\n\n04000000";
+    t.expect("a refused line", read_line(text, 0) == Next::Line { said: Err(Refusal::UnknownCode), at: 9 });
+    t.expect("an empty line", read_line(text, 9) == Next::Line { said: Err(Refusal::BadLine), at: 10 });
+    t.expect("a line without newline", read_line(text, 10) == Next::Line { said: Ok([4, 0, 0, 0]), at: 18 });
+    t.expect("the end", read_line(text, 18) == Next::Ended);
+    t.expect("past the end", read_line(text, usize::MAX) == Next::Ended);
+    t.expect("nothing", read_line(&[], 0) == Next::Ended);
+}
+
 // Document 01, Lines: the program as a call.
 fn runs(t: &mut Tally) {
     let (input, wanted) = (include_bytes!("../../cases/fourteen.in"), include_bytes!("../../cases/fourteen.out"));
@@ -171,6 +200,7 @@ fn main() {
     share_and_sheet(&mut t);
     books(&mut t);
     empty_slices(&mut t);
+    lines(&mut t);
     runs(&mut t);
     let numbers: Vec<u8> = Refusal::LISTED.iter().map(|r| r.number()).collect();
     t.expect("the numbers are 1 to 20", numbers == (1..=20).collect::<Vec<u8>>());

@@ -4,9 +4,8 @@ use mathlib.Core.Path.{_≡_, sym, ap, _∙_}
 use mathlib.Core.List.{List, []}
 use native.Mathlib.Omega.{arith}
 use lib.ListN.{length}
-use denote.Ref.{RefT, now}
 use borrow.Author.Tests.{ne-eqb}
-use Rattle.book.specs.Part.{Part, seen, within}
+use Rattle.book.specs.Part.{Part, within}
 use Rattle.book.specs.Book.{entryAt, lengthByte, addressOf, addressNumber, addressPart}
 use Rattle.book.proofs.EntryLaws.{entry-long, address-long}
 use Rattle.book.proofs.RefusalLaws.{book-passes, address-passes}
@@ -35,10 +34,3 @@ module _ (s : ℕ) (owners : List ℕ) (book : Part) (p : ℕ) where
   pub handed-none : (addressNumber s owners (book .bytes) p ≡ 0 → ⊥) → addressPart s owners book p .bytes ≡ []
   unfolding addressPart
   handed-none refused = rw (ne-eqb (addressNumber s owners (book .bytes) p) 0 refused)
-
-  -- the promise fixes what is handed out: the block, the place and the bytes
-  pub handed-fixed : (r q : RefT (List ℕ)) → seen r ≡ addressPart s owners book p → seen q ≡ addressPart s owners book p
-      → (r .ptr .0 ≡ q .ptr .0) × (r .ptr .1 ≡ q .ptr .1) × (now r ≡ now q)
-  handed-fixed r q e f =
-      let same = e ∙ sym f in
-      (ap (λ (part : Part). part .block) same, ap (λ (part : Part). part .place) same, ap (λ (part : Part). part .bytes) same)

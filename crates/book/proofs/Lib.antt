@@ -10,6 +10,8 @@ pub mod AddressLaws
 -- Theorems for a reader.
 pub mod Written
 pub mod Handed
+pub mod NoTwoAnswers
 pub mod Found
 pub mod Unique
+pub mod BookExactly
 pub mod Cases

@@ -1,7 +1,7 @@
 -- What a book that passes the check holds.
 use Prim.Native.Nat.{ℕ, _≤_, _<_}
 use mathlib.Core.Path.{_≡_, refl, sym, ap, _∙_}
-use mathlib.Core.Bool.{false}
+use mathlib.Core.Bool.{true, false}
 use mathlib.Core.List.{List}
 use native.Mathlib.Omega.{arith}
 use lib.ListN.{length, getD}
@@ -11,8 +11,9 @@ use Rattle.model.specs.declared.Answer.{Answer}
 use Rattle.model.specs.Refusals.{Twins}
 use Rattle.model.specs.Questions.{lowest}
 use Rattle.model.specs.Answers.{accepted, refused}
-use Rattle.model.proofs.QuestionLaws.{some-none, lowest-has, some-lowest, some-has, lowest-low}
+use Rattle.model.proofs.QuestionLaws.{some-none, some-there, lowest-has, some-lowest, some-has, lowest-low}
 use Rattle.book.specs.Book.{addressOf, has, twinBelow, twins, bookRefusal, checkNumber, checkAnswer, searchNumber, searchAnswer}
+use Rattle.book.specs.BookRows.{Alike}
 use Rattle.book.proofs.OwnerLaws.{owner-inside}
 use Rattle.book.proofs.AnswerLaws.{accepted-answer, answered-accepted, answered-number}
 use Rattle.book.proofs.RefusalLaws.{book-passes, check-not-passed, check-passes, search-found}
@@ -55,23 +56,27 @@ module _ (s : ℕ) (owners book : List ℕ) (passed : checkAnswer s owners book 
       refl)
 
 -- ---- what 19 says
--- two pointers that have equal owner and equal address
-pub record Alike (owners book : List ℕ) : Type 0 where
-  pub low : ℕ
-  pub high : ℕ
-  pub apart : low < high
-  pub inside : high < length owners
-  pub owned : getD owners low 0 ≡ getD owners high 0
-  pub named : addressOf book low ≡ addressOf book high
-
--- 19 only where there are two
-pub twins-alike : (s : ℕ) (owners book : List ℕ) → checkAnswer s owners book ≡ refused Twins → Alike owners book
-unfolding checkAnswer twins
-twins-alike s owners book e =
-    let n : checkNumber s owners book ≡ 19 = sym (answered-number _ _) ∙ ap (λ (a : Answer). a .number) e in
+-- the test of twins holds exactly where two pointers are alike
+pub twins-are : (owners book : List ℕ) → twins owners book ≡ true → Alike owners book
+unfolding twins
+twins-are owners book e =
     let high = lowest (length owners) (twinBelow owners book) in
     let alike = has owners book (getD owners high 0) (addressOf book high) in
-    let h = some-has (twinBelow owners book) (length owners) (check-not-passed s owners book n) in
+    let h = some-has (twinBelow owners book) (length owners) e in
     let l = some-has alike high (h .1) in
     let both = has-both owners book (getD owners high 0) (addressOf book high) (lowest high alike) (l .1) in
     record { low = lowest high alike; high = high; apart = l .0; inside = h .0; owned = both .0; named = both .1 }
+
+pub are-twins : (owners book : List ℕ) → Alike owners book → twins owners book ≡ true
+unfolding twins
+are-twins owners book a =
+    some-there (twinBelow owners book) (length owners) (a .high) (a .inside)
+    (some-there (has owners book (getD owners (a .high) 0) (addressOf book (a .high))) (a .high) (a .low) (a .apart)
+    (both-has owners book (getD owners (a .high) 0) (addressOf book (a .high)) (a .low) (a .owned) (a .named)))
+
+-- 19 only where there are two
+pub twins-alike : (s : ℕ) (owners book : List ℕ) → checkAnswer s owners book ≡ refused Twins → Alike owners book
+unfolding checkAnswer
+twins-alike s owners book e =
+    let n : checkNumber s owners book ≡ 19 = sym (answered-number _ _) ∙ ap (λ (a : Answer). a .number) e in
+    twins-are owners book (check-not-passed s owners book n)

@@ -41,7 +41,7 @@ module _ (a rest : List ℕ) where
   next-address p = rw (next-length p, next-entry p, add-assoc, drop-append-add (length a ∷ a) rest (entryAt rest p + 1))
 
 -- ---- addresses, written, are a book of as many entries, and its addresses are those
-written-length : (list : List (List ℕ)) (p : ℕ) → p < length list → lengthByte (written list) p ≡ length (getD list p [])
+pub written-length : (list : List (List ℕ)) (p : ℕ) → p < length list → lengthByte (written list) p ≡ length (getD list p [])
 unfolding written entryAt
 written-length [] p l = absurd (not-suc-le-zero l)
 written-length (a ∷ list) zero l = refl

@@ -11,7 +11,7 @@ use model::Answer;
 use model::Posted;
 use rules::answer::accepted;
 use rules::answer::refused;
-use tables::lent::owners_refusal;
+use tables::owners::owners_refusal;
 ghost use mathlib.Core.Path.{_≡_};
 ghost use Rattle.book.specs.Part.{seen};
 ghost use Rattle.book.specs.Book.{bookRefusal, addressNumber, addressPart, checkAnswer, searchAnswer};

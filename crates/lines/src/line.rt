@@ -62,7 +62,7 @@ fn call_of(code: u8, a: u8, b: u8, c: u8) -> Call
 }
 
 // What four bytes say: the code is tested, then the last byte.
-fn read_bytes(code: u8, a: u8, b: u8, c: u8) -> Read
+pub fn read_bytes(code: u8, a: u8, b: u8, c: u8) -> Read
     ensures { λ r. ⌜ r ≡ readBytes code a b c ⌝ }
 {
     let by_code = code_refusal(code);

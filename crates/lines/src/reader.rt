@@ -7,7 +7,7 @@ ghost use Prim.Native.Nat.{_+_};
 ghost use lib.Dec.{ltb};
 ghost use lib.ListN.{length};
 ghost use Rattle.model.specs.Lines.{endAt, nextAt};
-ghost use Rattle.model.specs.Places.{movedTo, placeAfter};
+ghost use Rattle.model.specs.Places.{movedTo};
 ghost use Rattle.lines.specs.Reading.{started, answerOf, movedOn};
 
 // Where the line that starts at a place ends.
@@ -36,7 +36,7 @@ fn past_newline(text: &[u8], end: usize) -> usize
 }
 
 // What the reader answers at a place, any place: the line that starts there, or that it has ended.
-pub fn next_at(text: &[u8], at: usize) -> Next
+pub(crate) fn next_at(text: &[u8], at: usize) -> Next
     ensures { λ r. ⌜ r ≡ nextAt (now (text .entry)) at ⌝ }
 {
     if text.len() <= at {
@@ -50,7 +50,7 @@ pub fn next_at(text: &[u8], at: usize) -> Next
 }
 
 // Where that answer leaves the reader: past the line; at the end it stays.
-pub fn past_at(text: &[u8], at: usize) -> usize
+pub(crate) fn past_at(text: &[u8], at: usize) -> usize
     ensures { λ r. ⌜ r ≡ movedTo at (nextAt (now (text .entry)) at) ⌝ }
 {
     if text.len() <= at {
@@ -91,9 +91,23 @@ impl<'a> Reader<'a> {
     }
 }
 
-// What a reader answers past the first line, which opens.
-pub fn after_first(text: &[u8]) -> Next
-    ensures { λ r. ⌜ r ≡ nextAt (now (text .entry)) (placeAfter (now (text .entry)) 1) ⌝ }
+// What a reader that stands at a place answers, any place.
+pub fn next_from(text: &[u8], at: usize) -> Next
+    ensures { λ r. ⌜ r ≡ nextAt (now (text .entry)) at ⌝ }
 {
-    Reader::new(text).moved().next()
+    Reader { text, at }.next()
+}
+
+// Where it stands then: past the line; at the end it stays.
+pub fn past_from(text: &[u8], at: usize) -> usize
+    ensures { λ r. ⌜ r ≡ movedTo at (nextAt (now (text .entry)) at) ⌝ }
+{
+    Reader { text, at }.moved().at
+}
+
+// Where a reader stands past the first line of a text, which opens.
+pub fn past_first(text: &[u8]) -> usize
+    ensures { λ r. ⌜ r ≡ movedTo 0 (nextAt (now (text .entry)) 0) ⌝ }
+{
+    Reader::new(text).moved().at
 }

@@ -71,7 +71,7 @@ pub fn put_answer(text: &mut [u8], at: usize, answer: Answer)
 }
 
 // A call's four bytes.
-fn bytes_of(call: Call) -> [u8; 4]
+pub fn bytes_of(call: Call) -> [u8; 4]
     ensures { λ r. ⌜ r ≡ bytesOf call ⌝ }
 {
     match call {

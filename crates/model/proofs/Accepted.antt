@@ -13,14 +13,14 @@ use Rattle.model.specs.declared.Posted.the-variants.{Copy, Dec as Decr, 
 use Rattle.model.specs.Refusals.{_when_}
 use Rattle.model.specs.Messages.{isNothing, receiveRefusal}
 use Rattle.model.specs.Layout.{Layout}
-use Rattle.model.specs.Calls.{lentRefusal, front, lowestEmpty, copyNumber, receiveNumber, deleteNumber, counterThere}
+use Rattle.model.specs.Calls.{lentRefusal, front, lowestEmpty, copyNumber, receiveNumber, deleteNumber, askNumber, counterThere}
 use Rattle.model.specs.Laws.{Laws}
-use Rattle.model.specs.Demands.{Row, _because_, FirstOf, NoSlotEmpty, LowestEmpty, lentRows, copyRows, deleteRows}
+use Rattle.model.specs.Demands.{Row, _because_, FirstOf, NoSlotEmpty, LowestEmpty, lentRows, copyRows, deleteRows, askRows}
 use Rattle.model.proofs.TestLaws.{true-not-false, when-not, or-else-none}
 use Rattle.model.proofs.FrontLaws.{front-passed}
 use Rattle.model.proofs.QuestionLaws.{lowest-has, lowest-below}
 use Rattle.model.proofs.RowLaws.{none-lowest}
-use Rattle.model.proofs.Exactly.{copy-exactly, delete-exactly}
+use Rattle.model.proofs.Exactly.{copy-exactly, delete-exactly, ask-exactly}
 
 -- a table that gives 0: its first reason does not hold, and the rest gives 0
 first-fails : (k : ℕ) (reason : Type 0) (rows : List Row) → FirstOf (suc k because reason ∷ rows) 0 → (reason → ⊥) × FirstOf rows 0
@@ -179,3 +179,20 @@ module _ {D : Type 0} (L : Layout D) (W : Laws L) where
         in-time = f .0;
         own = f .1;
       }
+
+  -- ---- ask
+  pub record Asked (d : D) (site p : ℕ) : Type 0 where
+    pub a-pointer : p < pointers d
+    pub at-owner : site ≡ owner d p
+
+  pub ask-accepted : (d : D) (site p : ℕ) → askNumber L d site p ≡ 0 → Asked d site p
+  ask-accepted d site p e =
+      let f0 : FirstOf (lentRows L d (askRows L d site p)) 0 = rw e at (ask-exactly L d site p) in
+      let f1 = lent-good d (askRows L d site p) f0 in
+      let f3 = first-fails 2 ((sites d ≤ site) ⊎ (pointers d ≤ p)) _ (f1 .1) in
+      let f13 = first-fails 12 (site ≢ owner d p) _ (f3 .1) in
+      record { a-pointer = below (λ l. f3 .0 (inr l)); at-owner = same (ℕ-discrete site (owner d p)) (f13 .0) }
+    where
+      same : Dec (site ≡ owner d p) → (site ≢ owner d p → ⊥) → site ≡ owner d p
+      same (yes q) h = q
+      same (no apart) h = absurd (h apart)

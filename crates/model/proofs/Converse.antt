@@ -2,10 +2,10 @@
 use Prim.Native.Nat.{ℕ, _≤_, _<_}
 use mathlib.Core.Path.{_≡_, refl, sym, ap, _∙_, subst}
 use mathlib.Core.Logic.{_≢_, _⊎_, inl, inr}
-use mathlib.Core.Bool.{true, false, not}
-use mathlib.Core.List.{List, [], _∷_}
+use mathlib.Core.Bool.{true, false}
+use mathlib.Core.List.{[]}
 use native.Mathlib.Omega.{arith}
-use borrow.Author.Tests.{not-false, eqb-true, ne-eqb, lt-ltb}
+use borrow.Author.Tests.{eqb-true, ne-eqb, lt-ltb}
 use Rattle.moreau.specs.StateSpace.{Msg, COPY, DEC, INC-DEC, BagOf, ⟅_⟆}
 use Rattle.moreau.specs.Transformers.{MayCopy, MayReceive, MayDelete}
 use Rattle.moreau.specs.Transitions.{PaperGuard}
@@ -13,24 +13,18 @@ use Rattle.moreau.proofs.Bags.{one-same}
 use Rattle.model.specs.declared.Posted.{Posted}
 use Rattle.model.specs.declared.Posted.the-variants.{Copy, Dec as Decr, IncDec, Nothing}
 use Rattle.model.specs.declared.Call.the-variants.{MakeCopy, Receive, Delete}
-use Rattle.model.specs.Refusals.{_when_}
 use Rattle.model.specs.Messages.{isNothing, receiver, pointerOf, receiveRefusal}
 use Rattle.model.specs.Layout.{Layout}
 use Rattle.model.specs.Calls.{front, copyNumber, copied, makeCopy, receiveNumber, received, receive, deleteNumber, deleted, delete, heldRefusal, lentRefusal, step}
 use Rattle.model.specs.Laws.{Laws}
 use Rattle.model.specs.Meaning.{meant, configOf, meaning}
-use Rattle.model.specs.Demands.{Row, _because_, FirstOf, NoSlotEmpty, lentRows, copyRows, deleteRows}
-use Rattle.model.proofs.TestLaws.{true-not-false, when-not, or-else-none}
-use Rattle.model.proofs.Exactly.{number-of-unless, copy-exactly, delete-exactly}
+use Rattle.model.specs.Demands.{FirstOf, NoSlotEmpty, copyRows, deleteRows}
+use Rattle.model.proofs.TestLaws.{true-not-false}
+use Rattle.model.proofs.RowLaws.{passed-over}
+use Rattle.model.proofs.Exactly.{number-of-unless, lent-passed, copy-exactly, delete-exactly}
 use Rattle.model.proofs.HeldLaws.{the-guard-is-held}
 use Rattle.model.proofs.KeptLaws.{sent, holds}
 use Rattle.model.proofs.ReceiveTransition.{one-bag}
-
--- a row whose reason does not hold is passed over
-passed-over : (k : ℕ) (reason : Type 0) (rows : List Row) (n : ℕ) → (reason → ⊥) → FirstOf (k because reason ∷ rows) n → FirstOf rows n
-unfolding FirstOf
-passed-over k reason rows n h (inl f) = absurd (h (f .0))
-passed-over k reason rows n h (inr f) = f .1
 
 none-left : (n : ℕ) → FirstOf [] n → n ≡ 0
 unfolding FirstOf
@@ -48,15 +42,7 @@ too-large : {a n : ℕ} → a < n → n ≤ a → ⊥
 too-large l h = omega arith
 
 module _ {D : Type 0} (L : Layout D) (W : Laws L) where
-  open Layout L using (sites, pointers, owner, counter, cell, slots, empty, message, shaped, sound, early)
-
-  -- the lent memory passes 1 and 2, so these rows are passed over
-  lent-passed : (d : D) (rows : List Row) (n : ℕ) → lentRefusal L d ≡ 0 → FirstOf (lentRows L d rows) n → FirstOf rows n
-  unfolding lentRefusal
-  lent-passed d rows n e f =
-      let q = or-else-none (1 when not (shaped d)) (2 when not (sound d)) e in
-      passed-over 2 (sound d ≡ false) rows n (λ z. true-not-false (sym (not-false _ (when-not 1 _ (q .1))) ∙ z))
-      (passed-over 1 (shaped d ≡ false) _ n (λ z. true-not-false (sym (not-false _ (when-not 0 _ (q .0))) ∙ z)) f)
+  open Layout L using (sites, pointers, owner, counter, cell, slots, empty, message, early)
 
   -- Where the machine permits MAKE_COPY, the names are in range, the sender's counter stands below 65,535 and a slot is empty, make copy is accepted.
   pub copy-permitted : (d : D) (from to p slot : ℕ) → lentRefusal L d ≡ 0 → from < sites d → to < sites d → p < pointers d → MayCopy from to p (meaning L d)
@@ -64,13 +50,13 @@ module _ {D : Type 0} (L : Layout D) (W : Laws L) where
   unfolding configOf step makeCopy copied
   copy-permitted d from to p slot e lf lt lp may low ls free =
       let n = copyNumber L d from to p in
-      number-of-unless n d (copied L d from to p) refl ∙ none-left n
+      number-of-unless n d _ refl ∙ none-left n
       (passed-over 7 (NoSlotEmpty L d) _ n (λ full. true-not-false (sym free ∙ full slot ls))
       (passed-over 6 (counter d from p ≡ 65535) _ n (λ z. omega arith)
       (passed-over 5 ((from ≢ owner d p) × (cell d from p ≡ 0)) _ n (reaches (may .access))
       (passed-over 4 (from ≡ to) _ n (may .apart)
       (passed-over 3 ((sites d ≤ from) ⊎ ((sites d ≤ to) ⊎ (pointers d ≤ p))) _ n in-range
-      (lent-passed d (copyRows L d from to p) n e (copy-exactly L d from to p)))))))
+      (lent-passed L d (copyRows L d from to p) n e (copy-exactly L d from to p)))))))
     where
       in-range : (sites d ≤ from) ⊎ ((sites d ≤ to) ⊎ (pointers d ≤ p)) → ⊥
       in-range (inl h) = too-large lf h
@@ -87,13 +73,13 @@ module _ {D : Type 0} (L : Layout D) (W : Laws L) where
   unfolding configOf step delete deleted
   delete-permitted d site p slot e ls lp may lk free =
       let n = deleteNumber L d site p in
-      number-of-unless n d (deleted L d site p) refl ∙ none-left n
+      number-of-unless n d _ refl ∙ none-left n
       (passed-over 7 (NoSlotEmpty L d) _ n (λ full. true-not-false (sym free ∙ full slot lk))
       (passed-over 12 (counter d site p ≢ 0) _ n (λ why. why (sym (sent L d site p ls lp) ∙ may .unsent))
       (passed-over 5 (cell d site p ≡ 0) _ n (λ z. omega (arith, eqb-true (cell d site p) 1 (sym (holds L d site p ls lp) ∙ may .held)))
       (passed-over 11 (site ≡ owner d p) _ n (λ q. may .other (sym q))
       (passed-over 3 ((sites d ≤ site) ⊎ (pointers d ≤ p)) _ n in-range
-      (lent-passed d (deleteRows L d site p) n e (delete-exactly L d site p)))))))
+      (lent-passed L d (deleteRows L d site p) n e (delete-exactly L d site p)))))))
     where
       in-range : (sites d ≤ site) ⊎ (pointers d ≤ p) → ⊥
       in-range (inl h) = too-large ls h

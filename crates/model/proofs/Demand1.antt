@@ -7,10 +7,11 @@ use Rattle.model.specs.declared.Posted.{Posted}
 use Rattle.model.specs.declared.Posted.the-variants.{Copy, Dec as Decr, IncDec, Nothing}
 use Rattle.model.specs.declared.Call.{Call}
 use Rattle.model.specs.declared.Call.the-variants.{MakeCopy, Receive, Delete, Ask}
+use Rattle.model.specs.Refusals.{Held}
 use Rattle.model.specs.Answers.{refused, Outcome, unless}
 use Rattle.model.specs.Layout.{Layout}
 use Rattle.model.specs.Calls.{openRefusal, openDesk, copyNumber, copied, makeCopy, receiveNumber, received, receive, deleteNumber, deleted, delete, askNumber, asked, ask, step}
-use Rattle.model.specs.Demands.{Row, FirstOf, _among_, listed, openRows, heldRowsOf, heldRows, messageRows, rowsOf, TellsEarly}
+use Rattle.model.specs.Demands.{Row, FirstOf, _among_, listedWith, openRows, heldRowsOf, heldRows, messageRows, rowsOf, TellsEarly}
 use Rattle.model.proofs.Exactly.{open-exactly, call-exactly}
 
 -- what is refused is as `unless` has it
@@ -30,32 +31,53 @@ from-the-table [] n f given = absurd (given f)
 from-the-table (row ∷ rows) n (inl f) given = inl (f .1)
 from-the-table (row ∷ rows) n (inr f) given = inr (from-the-table rows n (f .1) given)
 
+-- ---- lists of numbers
 -- a longer tail
-among-tail : (n k : ℕ) (ks ls : List ℕ) → (n among ks → n among ls) → n among (k ∷ ks) → n among (k ∷ ls)
+pub among-tail : (n k : ℕ) (ks ls : List ℕ) → (n among ks → n among ls) → n among (k ∷ ks) → n among (k ∷ ls)
 unfolding _among_
 among-tail n k ks ls wider (inl e) = inl e
 among-tail n k ks ls wider (inr m) = inr (wider m)
 
+-- the second of two lists
+pub among-second : (n : ℕ) (ks ls : List ℕ) → n among ls → n among (ks ++ ls)
+unfolding _among_
+among-second n [] ls m = m
+among-second n (k ∷ ks) ls m = inr (among-second n ks ls m)
+
+-- the first of two lists
+pub among-first : (n : ℕ) (ks ls : List ℕ) → n among ks → n among (ks ++ ls)
+unfolding _among_
+among-first n [] ls m = absurd m
+among-first n (k ∷ ks) ls (inl e) = inl e
+among-first n (k ∷ ks) ls (inr m) = inr (among-first n ks ls m)
+
+-- the numbers of two tables, one after the other
+among-both : (n : ℕ) (rows more : List Row) (ks ls : List ℕ) → (n among numbers rows → n among ks) → (n among numbers more → n among ls)
+    → n among numbers (rows ++ more) → n among (ks ++ ls)
+unfolding _among_
+among-both n [] more ks ls one two m = among-second n ks ls (two m)
+among-both n (row ∷ rows) more ks ls one two (inl e) = among-first n ks ls (one (inl e))
+among-both n (row ∷ rows) more ks ls one two (inr m) = among-both n rows more ks ls (λ h. one (inr h)) two m
+
 module _ {D : Type 0} (L : Layout D) where
-  -- the numbers of a message, with Held before its own, are among 4, 9, 10, 6
-  of-a-message : (d : D) (m : Posted) (n : ℕ) → n among numbers (heldRowsOf L d m ++ messageRows L d m) → n among (4 ∷ 9 ∷ 10 ∷ 6 ∷ [])
+  -- a message's own numbers are among 4, 10, 6
+  of-a-message : (d : D) (m : Posted) (n : ℕ) → n among numbers (messageRows L d m) → n among (4 ∷ 10 ∷ 6 ∷ [])
   unfolding _among_
   of-a-message d (Copy a b p) n (inl e) = inl e
   of-a-message d (Copy a b p) n (inr e) = absurd e
   of-a-message d (Decr a b p) n (inl e) = inr (inl e)
-  of-a-message d (Decr a b p) n (inr (inl e)) = inr (inr (inl e))
-  of-a-message d (Decr a b p) n (inr (inr e)) = absurd e
-  of-a-message d (IncDec a b c p) n (inl e) = inr (inr (inr (inl e)))
+  of-a-message d (Decr a b p) n (inr e) = absurd e
+  of-a-message d (IncDec a b c p) n (inl e) = inr (inr (inl e))
   of-a-message d (IncDec a b c p) n (inr e) = absurd e
   of-a-message d Nothing n e = absurd e
 
   -- A call with a number that is not 0 leaves all lent memory as it was; its value is 0 and it posts nothing.
   pub refused-leaves-all : (d : D) (c : Call) → step L d c .answer .number ≢ 0 → step L d c ≡ record { answer = refused (step L d c .answer .number); desk = d }
   unfolding step makeCopy receive delete ask copied received deleted asked
-  refused-leaves-all d (MakeCopy from to p) = refused-whole (copyNumber L d from to p) d (copied L d from to p) refl
-  refused-leaves-all d (Receive slot) = refused-whole (receiveNumber L d slot) d (received L d slot) refl
-  refused-leaves-all d (Delete site p) = refused-whole (deleteNumber L d site p) d (deleted L d site p) refl
-  refused-leaves-all d (Ask site p) = refused-whole (askNumber L d site p) d (asked L d p) refl
+  refused-leaves-all d (MakeCopy from to p) = refused-whole (copyNumber L d from to p) d _ refl
+  refused-leaves-all d (Receive slot) = refused-whole (receiveNumber L d slot) d _ refl
+  refused-leaves-all d (Delete site p) = refused-whole (deleteNumber L d site p) d _ refl
+  refused-leaves-all d (Ask site p) = refused-whole (askNumber L d site p) d _ refl
 
   -- The same of an opening.
   pub refused-opening-leaves-all : (d : D) → openDesk L d .answer .number ≢ 0 → openDesk L d ≡ record { answer = refused (openDesk L d .answer .number); desk = d }
@@ -79,12 +101,26 @@ module _ {D : Type 0} (L : Layout D) where
   pub refused-opening-by-listed : (d : D) → openDesk L d .answer .number ≢ 0 → openDesk L d .answer .number among (1 ∷ 2 ∷ [])
   refused-opening-by-listed d = from-the-table (openRows L d) _ (open-exactly L d)
 
-  -- Where Held is what comes too early, it is one of those that document 01 lists for the call.
-  pub refused-by-listed : TellsEarly L (heldRows L) → (d : D) (c : Call) → step L d c .answer .number ≢ 0 → step L d c .answer .number among listed c
-  refused-by-listed tells d (MakeCopy from to p) given = refused-by-a-row (heldRows L) tells d (MakeCopy from to p) given
-  refused-by-listed tells d (Receive slot) given =
+  -- It is one of those that are listed for the call, early among them where the rows of what comes too early have no other.
+  pub refused-by-listed : (earlyRows : D → ℕ → List Row) (early : List ℕ) → TellsEarly L earlyRows
+      → ((d : D) (slot n : ℕ) → n among numbers (earlyRows d slot) → n among early)
+      → (d : D) (c : Call) → step L d c .answer .number ≢ 0 → step L d c .answer .number among listedWith early c
+  refused-by-listed earlyRows early tells only d (MakeCopy from to p) given = refused-by-a-row earlyRows tells d (MakeCopy from to p) given
+  refused-by-listed earlyRows early tells only d (Receive slot) given =
       let n = step L d (Receive slot) .answer .number in
-      among-tail n 1 _ _ (among-tail n 2 _ _ (among-tail n 3 _ _ (among-tail n 8 _ _ (of-a-message d (L .message d slot) n))))
-      (refused-by-a-row (heldRows L) tells d (Receive slot) given)
-  refused-by-listed tells d (Delete site p) given = refused-by-a-row (heldRows L) tells d (Delete site p) given
-  refused-by-listed tells d (Ask site p) given = refused-by-a-row (heldRows L) tells d (Ask site p) given
+      among-tail n 1 _ _ (among-tail n 2 _ _ (among-tail n 3 _ _ (among-tail n 8 _ _
+      (among-both n (earlyRows d slot) _ early _ (only d slot n) (of-a-message d (L .message d slot) n)))))
+      (refused-by-a-row earlyRows tells d (Receive slot) given)
+  refused-by-listed earlyRows early tells only d (Delete site p) given = refused-by-a-row earlyRows tells d (Delete site p) given
+  refused-by-listed earlyRows early tells only d (Ask site p) given = refused-by-a-row earlyRows tells d (Ask site p) given
+
+  -- Held has no number but 9.
+  pub only-held : (d : D) (slot n : ℕ) → n among numbers (heldRows L d slot) → n among (Held ∷ [])
+  unfolding _among_
+  only-held d slot n = go (L .message d slot)
+    where
+      go : (m : Posted) → n among numbers (heldRowsOf L d m) → n among (Held ∷ [])
+      go (Copy a b p) e = absurd e
+      go (Decr a b p) e = e
+      go (IncDec a b c p) e = absurd e
+      go Nothing e = absurd e

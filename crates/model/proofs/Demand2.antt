@@ -26,18 +26,18 @@ module _ {D : Type 0} (L : Layout D) (W : Laws L) where
   -- An accepted make copy (from, to, pointer) is MAKE_COPY(from, to, pointer).
   pub copy-transition : (d : D) (from to p : ℕ) → step L d (MakeCopy from to p) .answer .number ≡ 0 → MakesCopy L d (step L d (MakeCopy from to p) .desk) from to p
   unfolding step makeCopy
-  copy-transition d from to p = accepted-as (λ e. MakesCopy L d e from to p) (copyNumber L d from to p) d (copied L d from to p) (λ z. copy-is-MAKE-COPY L W d from to p z .0)
+  copy-transition d from to p = accepted-as (λ e. MakesCopy L d e from to p) (copyNumber L d from to p) d _ (λ z. copy-is-MAKE-COPY L W d from to p z .0)
 
   -- An accepted delete (site, pointer) is DELETE(site, pointer).
   pub delete-transition : (d : D) (site p : ℕ) → step L d (Delete site p) .answer .number ≡ 0 → Deletes L d (step L d (Delete site p) .desk) site p
   unfolding step delete
-  delete-transition d site p = accepted-as (λ e. Deletes L d e site p) (deleteNumber L d site p) d (deleted L d site p) (λ z. delete-is-DELETE L W d site p z .0)
+  delete-transition d site p = accepted-as (λ e. Deletes L d e site p) (deleteNumber L d site p) d _ (λ z. delete-is-DELETE L W d site p z .0)
 
   -- An accepted receive (slot) is RECEIVE of the message that stands in the slot, under any guard that the layout's own test implies.
   pub receive-transition : (May : Guard) (d : D) (slot : ℕ) → ((a b p : ℕ) → slot < L .slots d → L .message d slot ≡ Decr a b p → L .early d slot ≡ 0 → May (meaning L d) a b p)
       → step L d (Receive slot) .answer .number ≡ 0 → Receives L May d (step L d (Receive slot) .desk) slot
   unfolding step receive
-  receive-transition May d slot passes = accepted-as (λ e. Receives L May d e slot) (receiveNumber L d slot) d (received L d slot) (λ z. receive-is-RECEIVE L W d May slot z passes .0)
+  receive-transition May d slot passes = accepted-as (λ e. Receives L May d e slot) (receiveNumber L d slot) d _ (λ z. receive-is-RECEIVE L W d May slot z passes .0)
 
   -- Where that test is Held, the guard is the published one.
   pub receive-transition-held : ((d : D) (slot : ℕ) → L .early d slot ≡ heldRefusal (L .slots d) (L .message d) (L .message d slot))
@@ -55,18 +55,18 @@ module _ {D : Type 0} (L : Layout D) where
   -- Make copy and delete: the value is the lowest empty slot, the message is the one that is posted.
   pub copy-answer : (d : D) (from to p : ℕ) → step L d (MakeCopy from to p) .answer .number ≡ 0 → step L d (MakeCopy from to p) .answer ≡ accepted (lowestEmpty L d) (Copy from to p)
   unfolding step makeCopy copied
-  copy-answer d from to p = answered-as (copyNumber L d from to p) d (copied L d from to p)
+  copy-answer d from to p = answered-as (copyNumber L d from to p) d _
 
   pub delete-answer : (d : D) (site p : ℕ) → step L d (Delete site p) .answer .number ≡ 0 → step L d (Delete site p) .answer ≡ accepted (lowestEmpty L d) (Decr site (L .owner d p) p)
   unfolding step delete deleted
-  delete-answer d site p = answered-as (deleteNumber L d site p) d (deleted L d site p)
+  delete-answer d site p = answered-as (deleteNumber L d site p) d _
 
   -- Receive: the value is the slot, the message is the reply.
   pub receive-answer : (d : D) (slot : ℕ) → step L d (Receive slot) .answer .number ≡ 0 → step L d (Receive slot) .answer ≡ accepted slot (replied L d slot)
   unfolding step receive received
-  receive-answer d slot = answered-as (receiveNumber L d slot) d (received L d slot)
+  receive-answer d slot = answered-as (receiveNumber L d slot) d _
 
   -- Ask: the value is 1 where the owner's counter is 0, else 0, and there is no message.
   pub ask-answer : (d : D) (site p : ℕ) → step L d (Ask site p) .answer .number ≡ 0 → step L d (Ask site p) .answer ≡ accepted (1 when eqb (L .counter d (L .owner d p) p) 0) Nothing
   unfolding step ask asked
-  ask-answer d site p = answered-as (askNumber L d site p) d (asked L d p)
+  ask-answer d site p = answered-as (askNumber L d site p) d _

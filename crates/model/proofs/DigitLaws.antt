@@ -40,6 +40,14 @@ number-by false n e h = let l = ltb-false n 10 e in letter-number (55 + n) (omeg
 pub number-of-digit : (n : ℕ) → n < 16 → numberOf (digitOf n) ≡ n
 number-of-digit n h = number-by (ltb n 10) n refl h
 
+-- the digit 0 is that of 0 alone
+pub digit-zero : (n : ℕ) → digitOf n ≡ 48 → n ≡ 0
+digit-zero n = go (ltb n 10)
+  where
+    go : (t : Bool) → cond t (48 + n) (55 + n) ≡ 48 → n ≡ 0
+    go true e = omega (arith, e)
+    go false e = absurd (omega (arith, e))
+
 -- ---- a digit, its number, its digit
 digit-by : (d l : Bool) (c : ℕ) → (leb 48 c && leb c 57) ≡ d → (leb 65 c && leb c 70) ≡ l
     → cond d (c - 48) (cond l (c - 55) 16) < 16 → digitOf (cond d (c - 48) (cond l (c - 55) 16)) ≡ c

@@ -5,7 +5,7 @@ use mathlib.Core.Logic.{_≢_, inl, inr}
 use mathlib.Core.Bool.{Bool, true, false, not}
 use mathlib.Core.List.{List, [], _∷_, _++_}
 use lib.Dec.{leb, ltb, eqb}
-use borrow.Author.Tests.{eqb-true, eqb-false, eq-eqb, ltb-false, le-ltb, not-true}
+use borrow.Author.Tests.{eqb-true, eqb-false, eq-eqb, ltb-false, le-ltb, not-true, not-false}
 use Rattle.model.specs.declared.Posted.{Posted}
 use Rattle.model.specs.declared.Posted.the-variants.{Copy, Dec as Decr, IncDec, Nothing}
 use Rattle.model.specs.declared.Call.{Call}
@@ -18,14 +18,18 @@ use Rattle.model.specs.Layout.{Layout}
 use Rattle.model.specs.Calls.{heldRefusal, copyRefusal, deleteRefusal, lentRefusal, front, openRefusal, openDesk, copyNumber, copied, makeCopy, receiveNumber, received, receive, deleteNumber, deleted, delete, askNumber, asked, ask, step}
 use Rattle.model.specs.Survey.{shareNumber, share, sheetNumber}
 use Rattle.model.specs.Demands.{Row, _because_, FirstOf, SomeIncDec, NoSlotEmpty, lentRows, openRows, copyRows, heldRowsOf, heldRows, messageRows, receiveRows, deleteRows, askRows, rowsOf, TellsEarly, shareRows, sheetRows}
-use Rattle.model.proofs.TestLaws.{or-else-assoc}
+use Rattle.model.proofs.TestLaws.{true-not-false, when-not, or-else-none, or-else-assoc}
 use Rattle.model.proofs.QuestionLaws.{some-there, some-has}
-use Rattle.model.proofs.RowLaws.{by-test, last-test, no-rows, false-when, not-equal-when, two-names, two-names-back, three-names, three-names-back, not-held, not-held-back, none-lowest, none-lowest-back, inc-dec-is, is-inc-dec}
+use Rattle.model.proofs.RowLaws.{by-test, last-test, no-rows, passed-over, false-when, not-equal-when, two-names, two-names-back, three-names, three-names-back, not-held, not-held-back, none-lowest, none-lowest-back, inc-dec-is, is-inc-dec}
 
 -- a refusal's number is the answer's, and an accepted call's is 0
 pub number-of-unless : {D : Type 0} (n : ℕ) (d : D) (o : Outcome D) → o .answer .number ≡ 0 → unless n d o .answer .number ≡ n
 number-of-unless zero d o e = e
 number-of-unless (suc n) d o e = refl
+
+-- a table that gives a call's number gives its answer's
+numbered : {D : Type 0} (rows : List Row) (n : ℕ) (d : D) (o : Outcome D) → FirstOf rows n → o .answer .number ≡ 0 → FirstOf rows (unless n d o .answer .number)
+numbered rows n d o f e = rw (number-of-unless n d o e) f
 
 -- No two numbers are the first of a table.
 pub one-number : (rows : List Row) (m n : ℕ) → FirstOf rows m → FirstOf rows n → m ≡ n
@@ -46,6 +50,14 @@ module _ {D : Type 0} (L : Layout D) where
       rw (or-else-assoc (1 when not (shaped d)) (2 when not (sound d)) rest)
       (by-test 0 (not (shaped d)) (shaped d ≡ false) _ _ (not-true (shaped d)) (false-when (shaped d))
       (by-test 1 (not (sound d)) (sound d ≡ false) _ _ (not-true (sound d)) (false-when (sound d)) r))
+
+  -- the lent memory passes 1 and 2, so these rows are passed over
+  pub lent-passed : (d : D) (rows : List Row) (n : ℕ) → lentRefusal L d ≡ 0 → FirstOf (lentRows L d rows) n → FirstOf rows n
+  unfolding lentRefusal
+  lent-passed d rows n e f =
+      let q = or-else-none (1 when not (shaped d)) (2 when not (sound d)) e in
+      passed-over 2 (sound d ≡ false) rows n (λ z. true-not-false (sym (not-false _ (when-not 1 _ (q .1))) ∙ z))
+      (passed-over 1 (shaped d ≡ false) _ n (λ z. true-not-false (sym (not-false _ (when-not 0 _ (q .0))) ∙ z)) f)
 
   -- 1, 2, 3, then the rest
   front-rows : (d : D) (named : Bool) (reason : Type 0) (rows : List Row) (rest : ℕ) → (not named ≡ true → reason) → (reason → not named ≡ true) → FirstOf rows rest
@@ -84,7 +96,7 @@ module _ {D : Type 0} (L : Layout D) where
       (by-test 11 (not (eqb (counter d site p) 0)) (counter d site p ≢ 0) _ _ (λ e. eqb-false _ _ (not-true _ e)) (not-equal-when _ _)
       (pool-full d))))
 
-  ask-exactly : (d : D) (site p : ℕ) → FirstOf (lentRows L d (askRows L d site p)) (askNumber L d site p)
+  pub ask-exactly : (d : D) (site p : ℕ) → FirstOf (lentRows L d (askRows L d site p)) (askNumber L d site p)
   unfolding askNumber
   ask-exactly d site p =
       front-rows d _ _ _ _ (two-names site (sites d) p (pointers d)) (two-names-back site (sites d) p (pointers d))
@@ -140,7 +152,7 @@ module _ {D : Type 0} (L : Layout D) where
     -- The number of a call is that of the first row of its table whose reason holds; it is 0 where none does.
     pub call-exactly : (d : D) (c : Call) → FirstOf (rowsOf L earlyRows d c) (step L d c .answer .number)
     unfolding step makeCopy receive delete ask copied received deleted asked
-    call-exactly d (MakeCopy from to p) = rw (number-of-unless (copyNumber L d from to p) d (copied L d from to p) refl) (copy-exactly d from to p)
-    call-exactly d (Receive slot) = rw (number-of-unless (receiveNumber L d slot) d (received L d slot) refl) (receive-exactly d slot)
-    call-exactly d (Delete site p) = rw (number-of-unless (deleteNumber L d site p) d (deleted L d site p) refl) (delete-exactly d site p)
-    call-exactly d (Ask site p) = rw (number-of-unless (askNumber L d site p) d (asked L d p) refl) (ask-exactly d site p)
+    call-exactly d (MakeCopy from to p) = numbered _ (copyNumber L d from to p) d _ (copy-exactly d from to p) refl
+    call-exactly d (Receive slot) = numbered _ (receiveNumber L d slot) d _ (receive-exactly d slot) refl
+    call-exactly d (Delete site p) = numbered _ (deleteNumber L d site p) d _ (delete-exactly d site p) refl
+    call-exactly d (Ask site p) = numbered _ (askNumber L d site p) d _ (ask-exactly d site p) refl

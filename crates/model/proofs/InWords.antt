@@ -9,7 +9,7 @@ use lib.ListN.{length, getD, replicate, length-replicate}
 use borrow.Author.Tests.{le-leb, ltb-true, lt-ltb, eqb-true, eq-eqb}
 use Rattle.model.specs.Tables.{Desk, byteBelow, allBelow, atSlot, slotGood, slotsOf, allSlotsGood, lent, sizesGood, ownersRefusal}
 use Rattle.model.specs.Calls.{openRefusal}
-use Rattle.model.specs.InWords.{Shaped, GoodSlot, no-message, a-copy, a-dec, an-inc-dec, GoodTables}
+use Rattle.model.specs.InWords.{Shaped, GoodSlot, no-message, a-copy, a-dec, an-inc-dec, GoodSlots, GoodTables}
 use Rattle.model.specs.Flat.{flat}
 use Rattle.model.proofs.TestLaws.{and-both, and-true}
 use Rattle.model.proofs.QuestionLaws.{every-at, every-all}
@@ -17,10 +17,10 @@ use Rattle.model.proofs.SlotLaws.{full, empty-zeros}
 use Rattle.model.proofs.ShapeLaws.{shaped, byte-below}
 
 -- every byte is below n
-Below : ℕ → List ℕ → Type 0
+unfoldable pub Below : ℕ → List ℕ → Type 0
 Below n bytes = (i : ℕ) → i < length bytes → getD bytes i 0 < n
 
-all-below-in-words : (n : ℕ) (bytes : List ℕ) → (allBelow n bytes ≡ true) ↔ Below n bytes
+pub all-below-in-words : (n : ℕ) (bytes : List ℕ) → (allBelow n bytes ≡ true) ↔ Below n bytes
 unfolding allBelow Below
 all-below-in-words n bytes = (
   (λ e i l. byte-below n bytes i l e),
@@ -28,7 +28,7 @@ all-below-in-words n bytes = (
 )
 
 -- ---- a slot
-slot-in-words : (S G kind from to third p : ℕ) → slotGood S G kind from to third p ≡ true → GoodSlot S G kind from to third p
+pub slot-in-words : (S G kind from to third p : ℕ) → slotGood S G kind from to third p ≡ true → GoodSlot S G kind from to third p
 slot-in-words S G zero a b c p e =
     let z = empty-zeros a b c p e in
     rw (z .0, z .1, z .2, z .3) no-message
@@ -45,14 +45,22 @@ slot-in-words S G (suc (suc (suc (suc k)))) a b c p e =
     let f = full S G (suc (suc (suc (suc k)))) a b c p e (omega arith) in
     absurd (omega (arith, f .known-kind))
 
-slot-from-words : (S G kind from to third p : ℕ) → GoodSlot S G kind from to third p → slotGood S G kind from to third p ≡ true
+pub slot-from-words : (S G kind from to third p : ℕ) → GoodSlot S G kind from to third p → slotGood S G kind from to third p ≡ true
 slot-from-words S G kind from to third p no-message = refl
 slot-from-words S G kind from to third p (a-copy l m n) = rw (lt-ltb from S l, lt-ltb to S m, lt-ltb p G n)
 slot-from-words S G kind from to third p (a-dec l m n) = rw (lt-ltb from S l, lt-ltb to S m, lt-ltb p G n)
 slot-from-words S G kind from to third p (an-inc-dec l m k n) = rw (lt-ltb from S l, lt-ltb to S m, lt-ltb third S k, lt-ltb p G n)
 
+-- every slot of w bytes is good
+pub slots-in-words : (w S G : ℕ) (pool : List ℕ) → (allSlotsGood w S G pool ≡ true) ↔ GoodSlots w S G pool
+unfolding allSlotsGood
+slots-in-words w S G pool = (
+  (λ e i l. slot-in-words _ _ _ _ _ _ _ (every-at (atSlot w (slotGood S G) pool) (slotsOf w pool) i l e)),
+  (λ h. every-all (atSlot w (slotGood S G) pool) (slotsOf w pool) (λ i l. slot-from-words _ _ _ _ _ _ _ (h i l))),
+)
+
 -- BadShape is given exactly where S is not 1 to 64, G is above 256, a length is another than S x G, or the pool is not 0 to 1,024 slots of 5 bytes.
-pub shape-in-words : (d : Desk) → (flat .shaped d ≡ true) ↔ Shaped (d .S) (length (d .owners)) (length (d .send)) (length (d .receive)) (length (d .pool))
+pub shape-in-words : (d : Desk) → (flat .shaped d ≡ true) ↔ Shaped 5 (d .S) (length (d .owners)) (length (d .send)) (length (d .receive)) (length (d .pool))
 shape-in-words d = (
   shaped (d .S) (length (d .owners)) (length (d .send)) (length (d .receive)) (length (d .pool)),
   (λ h. rw (
@@ -68,18 +76,18 @@ shape-in-words d = (
 
 -- BadTable is given, after BadShape, exactly where an owner, a receive byte or a slot breaks its form.
 pub sound-in-words : (d : Desk) → (flat .sound d ≡ true) ↔ GoodTables d
-unfolding allSlotsGood Below
+unfolding Below
 sound-in-words d = (
   (λ e.
-      let a = and-both (allBelow (d .S) (d .owners) && allBelow 2 (d .receive)) (allSlotsGood (d .S) (length (d .owners)) (d .pool)) e in
+      let a = and-both (allBelow (d .S) (d .owners) && allBelow 2 (d .receive)) (allSlotsGood 5 (d .S) (length (d .owners)) (d .pool)) e in
       let b = and-both (allBelow (d .S) (d .owners)) (allBelow 2 (d .receive)) (a .0) in
       record {
         owners = all-below-in-words (d .S) (d .owners) .0 (b .0);
         cells = all-below-in-words 2 (d .receive) .0 (b .1);
-        slots = λ i l. slot-in-words _ _ _ _ _ _ _ (every-at (atSlot (slotGood (d .S) (length (d .owners))) (d .pool)) (slotsOf (d .pool)) i l (a .1));
+        slots = slots-in-words 5 (d .S) (length (d .owners)) (d .pool) .0 (a .1);
       }),
   (λ h. rw (all-below-in-words (d .S) (d .owners) .1 (h .owners), all-below-in-words 2 (d .receive) .1 (h .cells))
-      (every-all (atSlot (slotGood (d .S) (length (d .owners))) (d .pool)) (slotsOf (d .pool)) (λ i l. slot-from-words _ _ _ _ _ _ _ (h .slots i l)))),
+      (slots-in-words 5 (d .S) (length (d .owners)) (d .pool) .1 (h .slots))),
 )
 
 -- BadTable is given for an opening, after BadShape, exactly where an owner is no site.

@@ -55,7 +55,7 @@ slot-controlled S G p s (Decr a b q) w = one-controlled S p s b (DEC a b q) (w .
 slot-controlled S G p s (IncDec a b c q) w = one-controlled S p s c (INC-DEC a b q c) (w .0, w .1, w .2) refl
 slot-controlled S G p s Nothing w = total-empty S p (under s Each) ∅ (λ m e. refl)
 
-module _ {D : Type 0} (L : Layout D) (W : Laws L) {d : D} (t : Stands L W d) (p : ℕ) (lp : p < L .pointers d) where
+module _ {D : Type 0} (L : Layout D) (W : Laws L) {d : D} (t : Stands L d) (p : ℕ) (lp : p < L .pointers d) where
   open Layout L using (sites, pointers, owner, counter, slots, message)
 
   -- The counter of a site that is not the owner is the number of messages in flight that act on it.
@@ -63,7 +63,7 @@ module _ {D : Type 0} (L : Layout D) (W : Laws L) {d : D} (t : Stands L W d) (p 
   unfolding configOf
   counter-is-messages-under-control s ls apart =
       sym (sent L d s p ls lp)
-      ∙ t .sound p lp .books s apart
+      ∙ t .there .sound p lp .books s apart
       ∙ total-of-slots (sites d) p (under s Each) (slots d) (λ i. meant (message d i))
       ∙ total-same (slots d) (λ i. totalOf (sites d) p (under s Each) (meant (message d i))) (λ i. controls s p (message d i))
       (λ i l. slot-controlled (sites d) (pointers d) p s (message d i) (W .inside d (t .good) i l))

@@ -4,11 +4,14 @@ pub mod QuestionLaws
 pub mod PlaceLaws
 pub mod SlotLaws
 pub mod ShapeLaws
+pub mod PartLaws
 pub mod FlatLaws
 pub mod InWords
 pub mod FrontLaws
 pub mod RowLaws
 pub mod Exactly
+pub mod EdgeLaws
+pub mod Decided
 pub mod Demand1
 pub mod Accepted
 pub mod PoolLaws
@@ -23,6 +26,7 @@ pub mod HeldLaws
 pub mod Demand2
 pub mod Placed
 pub mod Converse
+pub mod OpeningLaws
 pub mod QuietLaws
 pub mod ReachedLaws
 pub mod Demand3
@@ -32,8 +36,11 @@ pub mod Lemma4
 pub mod DigitLaws
 pub mod CallLaws
 pub mod LineLaws
+pub mod WrittenLine
 pub mod RoundTrip
 pub mod EachLineOnce
+pub mod LinesExactly
+pub mod TheProgram
 pub mod TheDesk
 pub mod LineTable
 pub mod Fourteen
@@ -41,3 +48,5 @@ pub mod RefusedLines
 pub mod Openings
 pub mod SurveyCases
 pub mod Edges
+pub mod RawCases
+pub mod OneOutcome

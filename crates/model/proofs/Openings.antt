@@ -5,8 +5,10 @@ use mathlib.Core.Path.{_≡_, refl}
 use mathlib.Core.List.{List, [], _∷_, _++_}
 use lib.ListN.{length}
 use borrow.Author.Tests.{lt-ltb, le-ltb}
+use Rattle.model.specs.declared.Posted.the-variants.{IncDec}
 use Rattle.model.specs.Questions.{every, some, lowestFrom, upTo}
 use Rattle.model.specs.Messages.{messageOf}
+use Rattle.model.specs.Answers.{accepted, refused}
 use Rattle.model.specs.Calls.{copyRefusal, deleteRefusal, lentRefusal, front, openRefusal, openDesk, copyNumber, copied, makeCopy, receiveNumber, received, receive, deleteNumber, deleted, delete, askNumber, asked, ask, step}
 use Rattle.model.specs.Tables.{allBelow, allSlotsGood, ownRows}
 use Rattle.model.specs.Lines.{numberOf, digitsOf, byteOf, lineRefusal, readLine, linesOf}
@@ -52,6 +54,11 @@ listed (r ∷ rs) = texts (r .answered) ∷ listed rs
 pub openings : written runs ≡ listed runs
 unfolding runs written listed characters texts transcript session linesOf opening fresh openDesk openRefusal answers answerLine readLine lineRefusal byteOf numberOf digitsOf step front lentRefusal makeCopy copyNumber copyRefusal copied receive receiveNumber received delete deleteNumber deleteRefusal deleted ask askNumber asked allBelow allSlotsGood ownRows every some lowestFrom upTo messageOf
 openings = refl
+
+-- An answer line, digit by digit: number, value in two bytes, message as slot bytes; and one of a refusal.
+pub answer-lines : answerLine (accepted 1023 (IncDec 63 62 61 255)) ++ answerLine (refused 20) ≡ characters "0003FF033F3E3DFF" ++ characters "1400000000000000"
+unfolding answerLine digitsOf characters
+answer-lines = refl
 
 -- An input above 8,192 bytes gets one answer line, 17, and no other; one of 8,192 or fewer is run.
 pub too-long : (input : List ℕ) → 8192 < length input → transcript input ≡ characters "1100000000000000"

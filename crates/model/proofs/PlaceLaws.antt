@@ -13,7 +13,7 @@ use Rattle.moreau.specs.Transformers.{assign}
 use Rattle.moreau.proofs.Tables.{assign-here, assign-site, assign-pointer}
 use Rattle.model.specs.declared.Posted.{Posted}
 use Rattle.model.specs.Laws.{withSlot}
-use Rattle.model.specs.Flat.{place}
+use Rattle.model.specs.Tables.{place}
 
 -- ---- a pool with one slot changed
 module _ (pool : ℕ → Posted) (i : ℕ) (m : Posted) where

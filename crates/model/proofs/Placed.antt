@@ -26,13 +26,13 @@ module _ {D : Type 0} (L : Layout D) (W : Laws L) where
   pub copy-takes-lowest : (d : D) (from to p : ℕ) → step L d (MakeCopy from to p) .answer .number ≡ 0 → LowestEmpty L d (step L d (MakeCopy from to p) .answer .value)
   unfolding step makeCopy copied
   copy-takes-lowest d from to p e =
-      let z : copyNumber L d from to p ≡ 0 = sym (number-of-unless (copyNumber L d from to p) d (copied L d from to p) refl) ∙ e in
+      let z : copyNumber L d from to p ≡ 0 = sym (number-of-unless (copyNumber L d from to p) d _ refl) ∙ e in
       subst (LowestEmpty L d) (sym (ap (λ (a : Answer). a .value) (copy-answer L d from to p e))) (copy-accepted L W d from to p z .room .lowest-empty)
 
   pub delete-takes-lowest : (d : D) (site p : ℕ) → step L d (Delete site p) .answer .number ≡ 0 → LowestEmpty L d (step L d (Delete site p) .answer .value)
   unfolding step delete deleted
   delete-takes-lowest d site p e =
-      let z : deleteNumber L d site p ≡ 0 = sym (number-of-unless (deleteNumber L d site p) d (deleted L d site p) refl) ∙ e in
+      let z : deleteNumber L d site p ≡ 0 = sym (number-of-unless (deleteNumber L d site p) d _ refl) ∙ e in
       subst (LowestEmpty L d) (sym (ap (λ (a : Answer). a .value) (delete-answer L d site p e))) (delete-accepted L W d site p z .room .lowest-empty)
 
   -- What an accepted call leaves in every counter, every cell and every slot.
@@ -41,14 +41,14 @@ module _ {D : Type 0} (L : Layout D) (W : Laws L) where
   unfolding step makeCopy
   copy-leaves d from to p = accepted-as
       (λ e. Reads L d e (assign (counter d) from p (counter d from p + 1)) (cell d) (withSlot (message d) (lowestEmpty L d) (Copy from to p)))
-      (copyNumber L d from to p) d (copied L d from to p) (λ z. copied-reads L W d from to p (copy-accepted L W d from to p z))
+      (copyNumber L d from to p) d _ (λ z. copied-reads L W d from to p (copy-accepted L W d from to p z))
 
   pub delete-leaves : (d : D) (site p : ℕ) → step L d (Delete site p) .answer .number ≡ 0
       → Reads L d (step L d (Delete site p) .desk) (counter d) (assign (cell d) site p 0) (withSlot (message d) (lowestEmpty L d) (Decr site (owner d p) p))
   unfolding step delete
   delete-leaves d site p = accepted-as
       (λ e. Reads L d e (counter d) (assign (cell d) site p 0) (withSlot (message d) (lowestEmpty L d) (Decr site (owner d p) p)))
-      (deleteNumber L d site p) d (deleted L d site p) (λ z. deleted-reads L W d site p (delete-accepted L W d site p z))
+      (deleteNumber L d site p) d _ (λ z. deleted-reads L W d site p (delete-accepted L W d site p z))
 
   pub receive-leaves : (d : D) (slot : ℕ) → step L d (Receive slot) .answer .number ≡ 0 → let m = message d slot in
       Reads L d (step L d (Receive slot) .desk)
@@ -63,26 +63,26 @@ module _ {D : Type 0} (L : Layout D) (W : Laws L) where
       (assign (counter d) (receiver m) (pointerOf m) (counterAfter m (counterThere L d slot)))
       (assign (cell d) (receiver m) (pointerOf m) (cellAfter m (cellThere L d slot)))
       (withSlot (message d) slot (replied L d slot)))
-      (receiveNumber L d slot) d (received L d slot) (λ z. received-reads L W d slot (receive-accepted L W d slot z))
+      (receiveNumber L d slot) d _ (λ z. received-reads L W d slot (receive-accepted L W d slot z))
 
   -- What an accepted call posts stands in that slot: the COPY, the DEC, the reply.
   pub copy-posts : (d : D) (from to p : ℕ) → step L d (MakeCopy from to p) .answer .number ≡ 0
       → message (step L d (MakeCopy from to p) .desk) (lowestEmpty L d) ≡ Copy from to p
   unfolding step makeCopy
-  copy-posts d from to p = accepted-as (λ e. message e (lowestEmpty L d) ≡ Copy from to p) (copyNumber L d from to p) d (copied L d from to p) (λ z.
+  copy-posts d from to p = accepted-as (λ e. message e (lowestEmpty L d) ≡ Copy from to p) (copyNumber L d from to p) d _ (λ z.
       let c = copy-accepted L W d from to p z in
       copied-reads L W d from to p c .as-messages (lowestEmpty L d) (c .room .in-pool) ∙ changed-slot (message d) (lowestEmpty L d) (Copy from to p))
 
   pub delete-posts : (d : D) (site p : ℕ) → step L d (Delete site p) .answer .number ≡ 0
       → message (step L d (Delete site p) .desk) (lowestEmpty L d) ≡ Decr site (owner d p) p
   unfolding step delete
-  delete-posts d site p = accepted-as (λ e. message e (lowestEmpty L d) ≡ Decr site (owner d p) p) (deleteNumber L d site p) d (deleted L d site p) (λ z.
+  delete-posts d site p = accepted-as (λ e. message e (lowestEmpty L d) ≡ Decr site (owner d p) p) (deleteNumber L d site p) d _ (λ z.
       let c = delete-accepted L W d site p z in
       deleted-reads L W d site p c .as-messages (lowestEmpty L d) (c .room .in-pool) ∙ changed-slot (message d) (lowestEmpty L d) (Decr site (owner d p) p))
 
   pub receive-posts : (d : D) (slot : ℕ) → step L d (Receive slot) .answer .number ≡ 0 → message (step L d (Receive slot) .desk) slot ≡ replied L d slot
   unfolding step receive
-  receive-posts d slot = accepted-as (λ e. message e slot ≡ replied L d slot) (receiveNumber L d slot) d (received L d slot) (λ z.
+  receive-posts d slot = accepted-as (λ e. message e slot ≡ replied L d slot) (receiveNumber L d slot) d _ (λ z.
       let c = receive-accepted L W d slot z in
       received-reads L W d slot c .as-messages slot (c .in-pool) ∙ changed-slot (message d) slot (replied L d slot))
 

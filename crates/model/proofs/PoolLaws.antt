@@ -1,7 +1,7 @@
 -- Totals over the slots of a pool, and one slot changed.
 use Prim.Native.Nat.{ℕ, zero, suc, _+_, _-_, _≤_, _<_}
 use mathlib.Core.Path.{_≡_, refl, ap, ap₂}
-use mathlib.Core.Logic.{⊎-elim}
+use mathlib.Core.Logic.{_≢_, ⊎-elim}
 use native.Mathlib.Decide.{ℕ-discrete}
 use native.Mathlib.Nat.{eq-or-lt-of-le, le-of-suc-le-suc, not-suc-le-zero}
 use native.Mathlib.Omega.{arith}
@@ -28,21 +28,18 @@ term-in-total zero f i l = absurd (not-suc-le-zero l)
 term-in-total (suc n) f i l =
     ⊎-elim (λ q. rw q (omega arith)) (λ lt. omega (arith, term-in-total n f i lt)) (eq-or-lt-of-le (le-of-suc-le-suc l))
 
+-- one term changed: a new term for an old one
+pub total-changed : (n : ℕ) (f g : ℕ → ℕ) (i : ℕ) → i < n → ((j : ℕ) → j < n → j ≢ i → g j ≡ f j) → total n g + f i ≡ total n f + g i
+unfolding total
+total-changed zero f g i l h = absurd (not-suc-le-zero l)
+total-changed (suc n) f g i l h = go (ℕ-discrete n i) (λ ln. total-changed n f g i ln (λ j lj. h j (omega arith)))
+  where
+    go : Dec (n ≡ i) → (i < n → total n g + f i ≡ total n f + g i) → total n g + g n + f i ≡ total n f + f n + g i
+    go (yes q) below = omega (arith, total-same n g f (λ j lj. h j (omega arith) (omega arith)), ap f q, ap g q)
+    go (no apart) below = omega (arith, below (omega arith), h n (omega arith) apart)
+
 -- a slot's new message for its old one
 pub total-with-slot : (weight : Posted → ℕ) (pool : ℕ → Posted) (i : ℕ) (m : Posted) (n : ℕ) → i < n
     → total n (λ j. weight (withSlot pool i m j)) + weight (pool i) ≡ total n (λ j. weight (pool j)) + weight m
-unfolding total
-total-with-slot weight pool i m zero l = absurd (not-suc-le-zero l)
-total-with-slot weight pool i m (suc n) l = go (ℕ-discrete n i) (total-with-slot weight pool i m n)
-  where
-    go : Dec (n ≡ i) → (i < n → total n (λ j. weight (withSlot pool i m j)) + weight (pool i) ≡ total n (λ j. weight (pool j)) + weight m)
-        → total n (λ j. weight (withSlot pool i m j)) + weight (withSlot pool i m n) + weight (pool i) ≡ total n (λ j. weight (pool j)) + weight (pool n) + weight m
-    go (yes q) below =
-        let before = total-same n (λ j. weight (withSlot pool i m j)) (λ j. weight (pool j)) (λ j lj. ap weight (other-slot pool i m j (omega arith))) in
-        let here : weight (withSlot pool i m n) ≡ weight m = ap weight (rw q (changed-slot pool i m)) in
-        let old : weight (pool n) ≡ weight (pool i) = rw q in
-        omega arith
-    go (no apart) below =
-        let rest = below (omega arith) in
-        let here = ap weight (other-slot pool i m n apart) in
-        omega arith
+total-with-slot weight pool i m n l =
+    omega (arith, total-changed n (λ j. weight (pool j)) (λ j. weight (withSlot pool i m j)) i l (λ j lj apart. ap weight (other-slot pool i m j apart)), ap weight (changed-slot pool i m))

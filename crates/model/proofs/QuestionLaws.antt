@@ -46,6 +46,16 @@ every-not P n i l e = go (every n P) (every-at P n i l)
     go true f = let t = f refl in true-not-false cc
     go false f = refl
 
+-- where not all have it, one has not
+pub every-fails : (P : ℕ → Bool) (n : ℕ) → every n P ≡ false → (i : ℕ) × (i < n) × (P i ≡ false)
+unfolding every
+every-fails P zero e = true-not-false e
+every-fails P (suc n) e = go (every n P) (every-fails P n) e
+  where
+    go : (a : Bool) → (a ≡ false → (i : ℕ) × (i < n) × (P i ≡ false)) → (a && P n) ≡ false → (i : ℕ) × (i < suc n) × (P i ≡ false)
+    go true earlier f = (n, omega arith, f)
+    go false earlier f = let h = earlier refl in (h .0, omega (arith, h .1), h .2)
+
 -- ---- some
 pub some-more : (P : ℕ → Bool) (i : ℕ) {found : Bool} → found ≡ some i P → (found || P i) ≡ some (i + 1) P
 unfolding some

@@ -18,6 +18,7 @@ use Rattle.model.specs.Fields.{FieldsFit}
 use Rattle.model.proofs.DigitLaws.{byte-of-digits, digits-of-byte-at, length-digits, width-of-digits}
 use Rattle.model.proofs.CallLaws.{each-below, all-bytes, line-by-bytes, bytes-of-said}
 use Rattle.model.proofs.LineLaws.{line-there}
+use Rattle.model.proofs.WrittenLine.{four-bytes}
 
 -- the digits of four bytes read as those bytes
 line-of-bytes : (code a b c : ℕ) → code < 256 → a < 256 → b < 256 → c < 256 → readLine (digitsOf (code ∷ a ∷ b ∷ c ∷ [])) ≡ readBytes code a b c
@@ -101,12 +102,6 @@ next-of-digits bs rest =
     sym (line-there text 0 (length bs * 2) (length bs * 2 + 1) (readLine (digitsOf bs)) (omega arith) (omega arith)
     (ap readLine (sym (take-at (digitsOf bs) (newline ∷ rest) (length bs * 2 - 0) (omega arith))))
     (simp (lt-ltb (length bs * 2) (length text) n)))
-
-four-bytes : (call : Call) → length (bytesOf call) ≡ 4
-four-bytes (MakeCopy from to p) = refl
-four-bytes (Receive slot) = refl
-four-bytes (Delete site p) = refl
-four-bytes (Ask site p) = refl
 
 starts-with-line : (text : List ℕ) (call : Call) → 9 ≤ length text
     → sets text 0 (lineOf call) ≡ digitsOf (bytesOf call) ++ (newline ∷ drop (0 + length (lineOf call)) text)

@@ -17,12 +17,17 @@ use Rattle.model.proofs.TestLaws.{true-not-false, and-both, and-false}
 use Rattle.model.proofs.QuestionLaws.{lowest-below, lowest-nowhere}
 
 -- ---- an order of tests is a table of rows
--- a test that decides its row's reason, before the rows that follow
-pub by-test : (k : ℕ) (b : Bool) (reason : Type 0) (rows : List Row) (rest : ℕ) → (b ≡ true → reason) → (reason → b ≡ true) → FirstOf rows rest
+-- a test that decides its row's reason, before the rows that follow where it fails
+pub by-test-then : (k : ℕ) (b : Bool) (reason : Type 0) (rows : List Row) (rest : ℕ) → (b ≡ true → reason) → (reason → b ≡ true) → (b ≡ false → FirstOf rows rest)
     → FirstOf (suc k because reason ∷ rows) (suc k when b orElse rest)
 unfolding FirstOf
-by-test k true reason rows rest yes-then then-yes r = inl (yes-then refl, refl)
-by-test k false reason rows rest yes-then then-yes r = inr ((λ why. true-not-false (sym (then-yes why))), r)
+by-test-then k true reason rows rest yes-then then-yes r = inl (yes-then refl, refl)
+by-test-then k false reason rows rest yes-then then-yes r = inr ((λ why. true-not-false (sym (then-yes why))), r refl)
+
+-- before the rows that follow anyway
+pub by-test : (k : ℕ) (b : Bool) (reason : Type 0) (rows : List Row) (rest : ℕ) → (b ≡ true → reason) → (reason → b ≡ true) → FirstOf rows rest
+    → FirstOf (suc k because reason ∷ rows) (suc k when b orElse rest)
+by-test k b reason rows rest yes-then then-yes r = by-test-then k b reason rows rest yes-then then-yes (λ e. r)
 
 -- the last row
 pub last-test : (k : ℕ) (b : Bool) (reason : Type 0) → (b ≡ true → reason) → (reason → b ≡ true) → FirstOf (suc k because reason ∷ []) (suc k when b)
@@ -33,6 +38,19 @@ last-test k false reason yes-then then-yes = inr ((λ why. true-not-false (sym (
 pub no-rows : FirstOf [] 0
 unfolding FirstOf
 no-rows = refl
+
+-- ---- what a table's number says
+-- where the first reason holds, it is that row's
+pub given-first : (k : ℕ) (reason : Type 0) (rows : List Row) (n : ℕ) → reason → FirstOf (k because reason ∷ rows) n → n ≡ k
+unfolding FirstOf
+given-first k reason rows n why (inl f) = f .1
+given-first k reason rows n why (inr f) = absurd (f .0 why)
+
+-- a row whose reason does not hold is passed over
+pub passed-over : (k : ℕ) (reason : Type 0) (rows : List Row) (n : ℕ) → (reason → ⊥) → FirstOf (k because reason ∷ rows) n → FirstOf rows n
+unfolding FirstOf
+passed-over k reason rows n h (inl f) = absurd (h (f .0))
+passed-over k reason rows n h (inr f) = f .1
 
 -- ---- tests as reasons
 pub false-when : (b : Bool) → b ≡ false → not b ≡ true

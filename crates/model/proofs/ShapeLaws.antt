@@ -1,7 +1,7 @@
 -- What lent tables say that pass 1 and 2, and what an opening writes.
 use Prim.Native.Nat.{ℕ, zero, suc, _+_, _*_, _≤_, _<_}
 use mathlib.Core.Path.{_≡_, refl, _∙_}
-use mathlib.Core.Bool.{true, not}
+use mathlib.Core.Bool.{true, _&&_, not}
 use mathlib.Core.List.{List, [], _∷_, _++_}
 use mathlib.Core.Logic.{⊎-elim}
 use native.Mathlib.Nat.{suc-mul, not-suc-le-zero, eq-or-lt-of-le, le-of-suc-le-suc}
@@ -12,9 +12,9 @@ use lib.Seq.{getD-append-add}
 use borrow.Author.Tests.{leb-true, ltb-true, eqb-true, not-false, lt-ltb}
 use Rattle.model.specs.Refusals.{_when_}
 use Rattle.model.specs.Calls.{lentRefusal}
-use Rattle.model.specs.Tables.{Desk, sizesGood, lengthsGood, shapeGood, allBelow, allSlotsGood, byteBelow, ownRow, ownRows}
+use Rattle.model.specs.Tables.{place, Desk, sizesGood, poolGood, lengthsGood, shapeGood, allBelow, allSlotsGood, byteBelow, ownRow, ownRows}
 use Rattle.model.specs.InWords.{Sized, Shaped}
-use Rattle.model.specs.Flat.{flat, place}
+use Rattle.model.specs.Flat.{flat}
 use Rattle.model.proofs.TestLaws.{and-both, when-not, or-else-none, at-most-1}
 use Rattle.model.proofs.QuestionLaws.{every-at, every-all}
 use Rattle.model.proofs.PlaceLaws.{place-inside}
@@ -26,46 +26,27 @@ sized s g e =
     let e2 = and-both _ _ (e1 .0) in
     record { some-site = leb-true _ _ (e2 .0); few-sites = leb-true _ _ (e2 .1); few-pointers = leb-true _ _ (e1 .1) }
 
-pub shaped : (s g sends receives pools : ℕ) → shapeGood s g sends receives pools ≡ true → Shaped s g sends receives pools
-shaped s g sends receives pools e =
-    let e1 = and-both (sizesGood s g) (lengthsGood s g sends receives pools) e in
-    let e2 = and-both _ _ (e1 .1) in
+pub shaped-for : (w s g sends receives pools : ℕ) → (sizesGood s g && lengthsGood w s g sends receives pools) ≡ true → Shaped w s g sends receives pools
+shaped-for w s g sends receives pools e =
+    let e1 = and-both (sizesGood s g) (lengthsGood w s g sends receives pools) e in
+    let e2 = and-both (eqb sends (s * g) && eqb receives (s * g)) (poolGood w pools) (e1 .1) in
     let e3 = and-both _ _ (e2 .0) in
-    let e4 = and-both _ _ (e3 .0) in
+    let e4 = and-both _ _ (e2 .1) in
     record {
       sizes = sized s g (e1 .0);
-      send-length = eqb-true _ _ (e4 .0);
-      receive-length = eqb-true _ _ (e4 .1);
-      whole-slots = eqb-true _ _ (e3 .1);
-      few-slots = leb-true _ _ (e2 .1);
+      send-length = eqb-true _ _ (e3 .0);
+      receive-length = eqb-true _ _ (e3 .1);
+      whole-slots = eqb-true _ _ (e4 .0);
+      few-slots = leb-true _ _ (e4 .1);
     }
+
+pub shaped : (s g sends receives pools : ℕ) → shapeGood s g sends receives pools ≡ true → Shaped 5 s g sends receives pools
+shaped = shaped-for 5
 
 -- ---- bytes below a limit
 pub byte-below : (n : ℕ) (l : List ℕ) (i : ℕ) → i < length l → allBelow n l ≡ true → getD l i 0 < n
 unfolding allBelow
 byte-below n l i li e = ltb-true (getD l i 0) n (every-at (byteBelow n l) (length l) i li e)
-
--- ---- lent tables that pass 1 and 2
-pub record Good (d : Desk) : Type 0 where
-  pub shape-good : flat .shaped d ≡ true
-  pub owners-below : allBelow (d .S) (d .owners) ≡ true
-  pub cells-below : allBelow 2 (d .receive) ≡ true
-  pub slots-good : allSlotsGood (d .S) (length (d .owners)) (d .pool) ≡ true
-
-pub good : (d : Desk) → lentRefusal flat d ≡ 0 → Good d
-unfolding lentRefusal
-good d e =
-    let q = or-else-none (1 when not (flat .shaped d)) (2 when not (flat .sound d)) e in
-    let t = and-both _ _ (not-false _ (when-not 1 _ (q .1))) in
-    let u = and-both _ _ (t .0) in
-    record { shape-good = not-false _ (when-not 0 _ (q .0)); owners-below = u .0; cells-below = u .1; slots-good = t .1 }
-
-pub passes : (d : Desk) → Good d → lentRefusal flat d ≡ 0
-unfolding lentRefusal
-passes d g = rw (g .shape-good, g .owners-below, g .cells-below, g .slots-good)
-
-pub shaped-desk : (d : Desk) → lentRefusal flat d ≡ 0 → Shaped (d .S) (length (d .owners)) (length (d .send)) (length (d .receive)) (length (d .pool))
-shaped-desk d e = shaped (d .S) (length (d .owners)) (length (d .send)) (length (d .receive)) (length (d .pool)) (good d e .shape-good)
 
 -- ---- the rows that an opening writes
 pub length-own-rows : (s : ℕ) (owners : List ℕ) → length (ownRows s owners) ≡ s * length owners

@@ -37,14 +37,14 @@ sum-of-pos (suc n) f g h =
     ∙ pos-+ℤ-pos (∑ n g) (g n)
     ∙ ap pos (omega arith)
 
-module _ {D : Type 0} (L : Layout D) (W : Laws L) {d : D} (t : Stands L W d) (p : ℕ) (lp : p < L .pointers d) where
+module _ {D : Type 0} (L : Layout D) (W : Laws L) {d : D} (t : Stands L d) (p : ℕ) (lp : p < L .pointers d) where
   open Layout L using (sites, owner, counter)
 
   -- Y is at most X, by the slots
   below : (s : ℕ) → s < sites d → s ≢ owner d p → shareMinus L d s p ≤ sharePlus L d s p
   unfolding configOf
   below s ls apart =
-      let h = t .sound p lp .share s apart in
+      let h = t .there .sound p lp .share s apart in
       omega (arith, plus-is-X L W d (t .good) s p ls lp, minus-is-Y L W d (t .good) s p ls lp)
 
   -- No share is negative.
@@ -74,4 +74,4 @@ module _ {D : Type 0} (L : Layout D) (W : Laws L) {d : D} (t : Stands L W d) (p 
   unfolding sharesOfOthers configOf
   owner-counter-is-shares-of-others =
       sum-of-pos (sites d) (λ s. cond (eqb s (owner d p)) (pos 0) (shareOf L d s p)) (λ s. X (meaning L d) p s - Y (meaning L d) p s unless s is owner d p) one-share
-      ∙ ap pos (sym (owner-is-∑share (meaning L d) (t .well-formed) p lp (t .sound p lp)) ∙ sent L d (owner d p) p (W .owner-inside d (t .good) p lp) lp)
+      ∙ ap pos (sym (owner-is-∑share (meaning L d) (t .there .well-formed) p lp (t .there .sound p lp)) ∙ sent L d (owner d p) p (W .owner-inside d (t .good) p lp) lp)

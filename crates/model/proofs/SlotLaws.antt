@@ -63,56 +63,78 @@ one-by-one m e = rw e (go m)
     go (IncDec from to third p) = refl
     go Nothing = refl
 
-bytes-read-back : {A : Type 0} (f : ℕ → ℕ → ℕ → ℕ → ℕ → A) (l : List ℕ) (i kind from to third p : ℕ) → i * 5 + 5 ≤ length l
-    → atSlot f (sets l (i * 5) (kind ∷ from ∷ to ∷ third ∷ p ∷ [])) i ≡ f kind from to third p
-bytes-read-back f l i kind from to third p h =
-    let vs : List ℕ = kind ∷ from ∷ to ∷ third ∷ p ∷ [] in
-    let at : (k : ℕ) → k < 5 → getD (sets l (i * 5) vs) (i * 5 + k) 0 ≡ getD vs k 0 = λ k lk. inside-a-run vs l (i * 5) k h lk in
-    let first : getD (sets l (i * 5) vs) (i * 5) 0 ≡ kind = rw (add-zero (i * 5)) at (at 0 (omega arith)) in
-    λ w. f (first w) (at 1 (omega arith) w) (at 2 (omega arith) w) (at 3 (omega arith) w) (at 4 (omega arith) w)
-
-bytes-of-other-slot : {A : Type 0} (f : ℕ → ℕ → ℕ → ℕ → ℕ → A) (l : List ℕ) (i : ℕ) (m : Posted) (j : ℕ) → j ≢ i
-    → atSlot f (sets l (i * 5) (slotOf m)) j ≡ atSlot f l j
-bytes-of-other-slot f l i m j apart =
-    let at : (k : ℕ) → k < 5 → getD (sets l (i * 5) (slotOf m)) (j * 5 + k) 0 ≡ getD l (j * 5 + k) 0 = λ k lk. run-leaves-other-slot 5 (slotOf m) l i j k (five-bytes m) lk apart in
-    let first : getD (sets l (i * 5) (slotOf m)) (j * 5) 0 ≡ getD l (j * 5) 0 = rw (add-zero (j * 5)) at (at 0 (omega arith)) in
-    λ w. f (first w) (at 1 (omega arith) w) (at 2 (omega arith) w) (at 3 (omega arith) w) (at 4 (omega arith) w)
-
--- ---- the message of slot i
-message-reads-back : (l : List ℕ) (i : ℕ) (m : Posted) → i * 5 + 5 ≤ length l → messageAt (sets l (i * 5) (slotOf m)) i ≡ m
+-- as a message, and as a good slot where its names are in range
+read-back : (m : Posted) → let b = slotOf m in messageOf (getD b 0 0) (getD b 1 0) (getD b 2 0) (getD b 3 0) (getD b 4 0) ≡ m
 unfolding messageOf
-message-reads-back l i (Copy a b p) h = bytes-read-back messageOf l i 1 a b 0 p h
-message-reads-back l i (Decr a b p) h = bytes-read-back messageOf l i 2 a b 0 p h
-message-reads-back l i (IncDec a b c p) h = bytes-read-back messageOf l i 3 a b c p h
-message-reads-back l i Nothing h = bytes-read-back messageOf l i 0 0 0 0 0 h
+read-back (Copy from to p) = refl
+read-back (Decr from to p) = refl
+read-back (IncDec from to third p) = refl
+read-back Nothing = refl
 
--- a stored message changes that slot alone
-pub store-in-slot : (l : List ℕ) (i : ℕ) (m : Posted) (j : ℕ) → i * 5 + 5 ≤ length l → messageAt (sets l (i * 5) (slotOf m)) j ≡ withSlot (messageAt l) i m j
-store-in-slot l i m j h = go (ℕ-discrete j i)
-  where
-    go : Dec (j ≡ i) → messageAt (sets l (i * 5) (slotOf m)) j ≡ withSlot (messageAt l) i m j
-    go (yes e) = rw e (message-reads-back l i m h ∙ sym (changed-slot (messageAt l) i m))
-    go (no apart) = bytes-of-other-slot messageOf l i m j apart ∙ sym (other-slot (messageAt l) i m j apart)
+good-bytes : (s g : ℕ) (m : Posted) → Inside s g m → let b = slotOf m in slotGood s g (getD b 0 0) (getD b 1 0) (getD b 2 0) (getD b 3 0) (getD b 4 0) ≡ true
+good-bytes s g (Copy a b p) w = rw (lt-ltb a s (w .0), lt-ltb b s (w .1), lt-ltb p g (w .2))
+good-bytes s g (Decr a b p) w = rw (lt-ltb a s (w .0), lt-ltb b s (w .1), lt-ltb p g (w .2))
+good-bytes s g (IncDec a b c p) w = rw (lt-ltb a s (w .0), lt-ltb b s (w .1), lt-ltb c s (w .2), lt-ltb p g (w .3))
+good-bytes s g Nothing w = refl
+
+-- ---- a run of w bytes in slot i, where slots are w bytes wide
+module _ (w : ℕ) (wide : 5 ≤ w) (l vs : List ℕ) (i : ℕ) (long : length vs ≡ w) where
+  -- it reads back
+  pub run-in-slot-reads-back : {A : Type 0} (f : ℕ → ℕ → ℕ → ℕ → ℕ → A) → i * w + w ≤ length l
+      → atSlot w f (sets l (i * w) vs) i ≡ f (getD vs 0 0) (getD vs 1 0) (getD vs 2 0) (getD vs 3 0) (getD vs 4 0)
+  run-in-slot-reads-back f h =
+      let at : (k : ℕ) → k < 5 → getD (sets l (i * w) vs) (i * w + k) 0 ≡ getD vs k 0 = λ k lk. inside-a-run vs l (i * w) k (omega arith) (omega arith) in
+      let first : getD (sets l (i * w) vs) (i * w) 0 ≡ getD vs 0 0 = rw (add-zero (i * w)) at (at 0 (omega arith)) in
+      λ t. f (first t) (at 1 (omega arith) t) (at 2 (omega arith) t) (at 3 (omega arith) t) (at 4 (omega arith) t)
+
+  -- every other slot reads as before
+  pub run-in-slot-leaves-others : {A : Type 0} (f : ℕ → ℕ → ℕ → ℕ → ℕ → A) (j : ℕ) → j ≢ i → atSlot w f (sets l (i * w) vs) j ≡ atSlot w f l j
+  run-in-slot-leaves-others f j apart =
+      let at : (k : ℕ) → k < 5 → getD (sets l (i * w) vs) (j * w + k) 0 ≡ getD l (j * w + k) 0 = λ k lk. run-leaves-other-slot w vs l i j k long (omega arith) apart in
+      let first : getD (sets l (i * w) vs) (j * w) 0 ≡ getD l (j * w) 0 = rw (add-zero (j * w)) at (at 0 (omega arith)) in
+      λ t. f (first t) (at 1 (omega arith) t) (at 2 (omega arith) t) (at 3 (omega arith) t) (at 4 (omega arith) t)
+
+  -- ---- whose first five bytes are those of a message
+  module _ (m : Posted) (starts : (k : ℕ) → k < 5 → getD vs k 0 ≡ getD (slotOf m) k 0) (h : i * w + w ≤ length l) where
+    message-in-slot-reads-back : {A : Type 0} (f : ℕ → ℕ → ℕ → ℕ → ℕ → A)
+        → let b = slotOf m in atSlot w f (sets l (i * w) vs) i ≡ f (getD b 0 0) (getD b 1 0) (getD b 2 0) (getD b 3 0) (getD b 4 0)
+    message-in-slot-reads-back f =
+        run-in-slot-reads-back f h
+        ∙ (λ t. f (starts 0 (omega arith) t) (starts 1 (omega arith) t) (starts 2 (omega arith) t) (starts 3 (omega arith) t) (starts 4 (omega arith) t))
+
+    -- it changes the message of that slot alone
+    pub run-in-slot-changes-one-message : (j : ℕ) → messageAt w (sets l (i * w) vs) j ≡ withSlot (messageAt w l) i m j
+    run-in-slot-changes-one-message j = go (ℕ-discrete j i)
+      where
+        go : Dec (j ≡ i) → messageAt w (sets l (i * w) vs) j ≡ withSlot (messageAt w l) i m j
+        go (yes e) = rw e (message-in-slot-reads-back messageOf ∙ read-back m ∙ sym (changed-slot (messageAt w l) i m))
+        go (no apart) = run-in-slot-leaves-others messageOf j apart ∙ sym (other-slot (messageAt w l) i m j apart)
+
+    -- it makes a good slot where the names are in range
+    pub run-in-slot-is-good : (s g : ℕ) → Inside s g m → atSlot w (slotGood s g) (sets l (i * w) vs) i ≡ true
+    run-in-slot-is-good s g r = message-in-slot-reads-back (slotGood s g) ∙ good-bytes s g m r
+
+    -- and leaves a pool good
+    pub run-in-slot-keeps-slots-good : (s g : ℕ) → Inside s g m → allSlotsGood w s g l ≡ true → allSlotsGood w s g (sets l (i * w) vs) ≡ true
+    unfolding allSlotsGood
+    run-in-slot-keeps-slots-good s g r e =
+        rw (length-sets l (i * w) vs) (every-all (atSlot w (slotGood s g) (sets l (i * w) vs)) (slotsOf w l) (λ j lj. go j lj (ℕ-discrete j i)))
+      where
+        go : (j : ℕ) → j < slotsOf w l → Dec (j ≡ i) → atSlot w (slotGood s g) (sets l (i * w) vs) j ≡ true
+        go j lj (yes q) = rw q (run-in-slot-is-good s g r)
+        go j lj (no apart) = run-in-slot-leaves-others (slotGood s g) j apart ∙ every-at (atSlot w (slotGood s g) l) (slotsOf w l) j lj e
+
+-- ---- a message stored in a slot of five bytes
+module _ (l : List ℕ) (i : ℕ) (m : Posted) (h : i * 5 + 5 ≤ length l) where
+  -- it changes that slot alone
+  pub store-in-slot : (j : ℕ) → messageAt 5 (sets l (i * 5) (slotOf m)) j ≡ withSlot (messageAt 5 l) i m j
+  store-in-slot = run-in-slot-changes-one-message 5 (omega arith) l (slotOf m) i (five-bytes m) m (λ k lk. refl) h
+
+  -- where its names are in range it leaves a pool good
+  pub store-keeps-slots-good : (s g : ℕ) → Inside s g m → allSlotsGood 5 s g l ≡ true → allSlotsGood 5 s g (sets l (i * 5) (slotOf m)) ≡ true
+  store-keeps-slots-good = run-in-slot-keeps-slots-good 5 (omega arith) l (slotOf m) i (five-bytes m) m (λ k lk. refl) h
 
 -- ---- good slots
--- a message whose names are in range makes a good slot
-good-bytes : (s g : ℕ) (l : List ℕ) (i : ℕ) (m : Posted) → i * 5 + 5 ≤ length l → Inside s g m → atSlot (slotGood s g) (sets l (i * 5) (slotOf m)) i ≡ true
-good-bytes s g l i (Copy a b p) h w = bytes-read-back (slotGood s g) l i 1 a b 0 p h ∙ rw (lt-ltb a s (w .0), lt-ltb b s (w .1), lt-ltb p g (w .2))
-good-bytes s g l i (Decr a b p) h w = bytes-read-back (slotGood s g) l i 2 a b 0 p h ∙ rw (lt-ltb a s (w .0), lt-ltb b s (w .1), lt-ltb p g (w .2))
-good-bytes s g l i (IncDec a b c p) h w =
-    bytes-read-back (slotGood s g) l i 3 a b c p h ∙ rw (lt-ltb a s (w .0), lt-ltb b s (w .1), lt-ltb c s (w .2), lt-ltb p g (w .3))
-good-bytes s g l i Nothing h w = bytes-read-back (slotGood s g) l i 0 0 0 0 0 h
-
--- a message whose names are in range leaves a pool good
-pub store-keeps-slots-good : (s g : ℕ) (l : List ℕ) (i : ℕ) (m : Posted) → i < slotsOf l → Inside s g m → allSlotsGood s g l ≡ true → allSlotsGood s g (sets l (i * 5) (slotOf m)) ≡ true
-unfolding allSlotsGood
-store-keeps-slots-good s g l i m li w e =
-    rw (length-sets l (i * 5) (slotOf m)) (every-all (atSlot (slotGood s g) (sets l (i * 5) (slotOf m))) (slotsOf l) (λ j lj. go j lj (ℕ-discrete j i)))
-  where
-    go : (j : ℕ) → j < slotsOf l → Dec (j ≡ i) → atSlot (slotGood s g) (sets l (i * 5) (slotOf m)) j ≡ true
-    go j lj (yes q) = rw q (good-bytes s g l i m (omega arith) w)
-    go j lj (no apart) = bytes-of-other-slot (slotGood s g) l i m j apart ∙ every-at (atSlot (slotGood s g) l) (slotsOf l) j lj e
-
 -- what a good slot says of its bytes: an empty one has zeros
 pub empty-zeros : (from to third p : ℕ) → (eqb from 0 && eqb to 0 && eqb third 0 && eqb p 0) ≡ true → (from ≡ 0) × (to ≡ 0) × (third ≡ 0) × (p ≡ 0)
 empty-zeros from to third p e =

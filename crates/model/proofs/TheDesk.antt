@@ -1,22 +1,23 @@
 -- The three demands for the desk of document 01: the theorems over any lawful layout, at `flat`; those in words and of lines are document 01's alone.
 use Prim.Native.Nat.{ℕ, _+_, _-_, _≤_, _<_}
-use mathlib.Core.Path.{_≡_, refl}
-use mathlib.Core.Logic.{_≢_, _↔_}
+use mathlib.Core.Path.{_≡_, refl, sym, ap, _∙_}
+use mathlib.Core.Logic.{_≢_, _⊎_, _↔_}
 use mathlib.Core.Bool.{true}
 use mathlib.Core.List.{List, [], _∷_}
 use lib.Dec.{eqb}
 use lib.IntN.{pos}
-use lib.ListN.{length, getD}
+use lib.ListN.{length, getD, take, drop}
 use Rattle.moreau.specs.StateSpace.{Msg, DEC, INC-DEC, ⟅_⟆, initial}
 use Rattle.moreau.specs.Transformers.{assign, MayCopy, MayReceive, MayDelete}
-use Rattle.moreau.specs.Transitions.{PaperGuard}
-use Rattle.moreau.proofs.Guards.{paper-guard}
+use Rattle.moreau.specs.Transitions.{PaperGuard, Reachable}
+use Rattle.moreau.proofs.Reached.{standing-lasts, reachable-lasts}
 use Rattle.model.specs.declared.Posted.the-variants.{Copy, Dec as Decr, IncDec, Nothing}
 use Rattle.model.specs.declared.Call.{Call}
 use Rattle.model.specs.declared.Call.the-variants.{MakeCopy, Receive, Delete, Ask}
+use Rattle.model.specs.declared.Read.{Read}
 use Rattle.model.specs.declared.Read.the-variants.{Said}
 use Rattle.model.specs.declared.Next.the-variants.{Line}
-use Rattle.model.specs.Refusals.{_when_}
+use Rattle.model.specs.Refusals.{Held, _when_}
 use Rattle.model.specs.Answers.{accepted, refused}
 use Rattle.model.specs.Calls.{heldRefusal, lowestEmpty, lentRefusal, openDesk, replied, step, counterThere, cellThere}
 use Rattle.model.specs.Messages.{receiver, pointerOf, counterAfter, cellAfter}
@@ -25,23 +26,29 @@ use Rattle.model.specs.Survey.{inFlight, sharePlus, shareMinus, shareOf,
 use Rattle.model.specs.Tables.{Desk}
 use Rattle.model.specs.InWords.{Shaped, GoodTables}
 use Rattle.model.specs.Flat.{flat}
-use Rattle.model.specs.Lines.{digitsOf, bytesOf, writeCall, readLine, nextAt}
+use Rattle.model.specs.Lines.{digitsOf, bytesOf, lineOf, writeCall, readLine, refusalIn, linesOf, nextAt}
+use Rattle.model.specs.Transcript.{answerLine, opening, obeyed, deskBefore, answerLineAt, transcript}
 use Rattle.model.specs.Fields.{FieldsFit}
 use Rattle.model.specs.Meaning.{meant, meaning}
-use Rattle.model.specs.Demands.{FirstOf, _among_, listed, openRows, lentRows, heldRows, rowsOf, TellsEarly, shareRows, sheetRows, LowestEmpty, names, controls, MakesCopy, Receives, Deletes, Reached, Quiet}
+use Rattle.model.specs.Demands.{FirstOf, _among_, listed, openRows, lentRows, heldRows, rowsOf, TellsEarly, shareRows, sheetRows, LowestEmpty, names, controls, MakesCopy, Receives, Deletes, Reached, Quiet, look}
+use Rattle.model.specs.LineRows.{lineRows, openingLineRows, AsWritten}
 use Rattle.model.proofs.FlatLaws.{flat-laws}
 use Rattle.model.proofs.InWords as in-words
-use Rattle.model.proofs.MeaningLaws as meaning-laws
+use Rattle.model.proofs.OpeningLaws as opening-laws
 use Rattle.model.proofs.Exactly as exactly
+use Rattle.model.proofs.LinesExactly as lines-exactly
+use Rattle.model.proofs.EdgeLaws as edge-laws
 use Rattle.model.proofs.Demand1 as demand-1
 use Rattle.model.proofs.Demand2 as demand-2
 use Rattle.model.proofs.Placed as placed
 use Rattle.model.proofs.Converse as converse
 use Rattle.model.proofs.RoundTrip as round-trip
+use Rattle.model.proofs.WrittenLine as written-line
 use Rattle.model.proofs.Demand3 as demand-3
+use Rattle.model.proofs.TheProgram as the-program
 use Rattle.model.proofs.Shares as shares
 use Rattle.model.proofs.Lemma4 as lemma-4
-use Rattle.model.proofs.ReachedLaws.{Stands}
+use Rattle.model.proofs.ReachedLaws.{Means, Stands}
 use Rattle.model.proofs.ReachedLaws as reached-laws
 
 -- its test of a message that comes too early is Held
@@ -52,10 +59,8 @@ tells : TellsEarly flat (heldRows flat)
 tells = exactly.held-tells flat held
 
 -- on every reached desk the machine's invariant stands
-stands : {d : Desk} → Reached flat d → Stands flat flat-laws d
-stands r =
-    reached-laws.stands flat flat-laws PaperGuard paper-guard
-    (reached-laws.in-reach flat flat-laws PaperGuard (λ d r s. reached-laws.guarded-by-held flat flat-laws held d) r)
+stands : {d : Desk} → Reached flat d → Stands flat d
+stands = reached-laws.reached-means flat flat-laws standing-lasts (λ d r s slot. reached-laws.guarded-weakly flat flat-laws d slot (reached-laws.guarded-by-held flat held d slot))
 
 -- ---- demand 1
 -- A refused call leaves all lent memory as it was, with value 0 and no message.
@@ -64,21 +69,18 @@ refused-leaves-all = demand-1.refused-leaves-all flat
 
 -- Its number is one of those that document 01 lists for the call.
 pub refused-by-listed : (d : Desk) (c : Call) → step flat d c .answer .number ≢ 0 → step flat d c .answer .number among listed c
-refused-by-listed = demand-1.refused-by-listed flat tells
+refused-by-listed = demand-1.refused-by-listed flat (heldRows flat) (Held ∷ []) tells (demand-1.only-held flat)
 
--- The same of an opening; and an accepted one makes the initial configuration of the machine.
+-- The same of an opening.
 pub refused-opening-by-listed : (d : Desk) → openDesk flat d .answer .number ≢ 0 → openDesk flat d .answer .number among (1 ∷ 2 ∷ [])
 refused-opening-by-listed = demand-1.refused-opening-by-listed flat
 
 pub refused-opening-leaves-all : (d : Desk) → openDesk flat d .answer .number ≢ 0 → openDesk flat d ≡ record { answer = refused (openDesk flat d .answer .number); desk = d }
 refused-opening-leaves-all = demand-1.refused-opening-leaves-all flat
 
-pub opening-means : (d : Desk) → flat .shaped d ≡ true → flat .owned d ≡ true → meaning flat (flat .cleared d) ≡ initial (d .S) (flat .pointers d) (flat .owner d)
-opening-means = meaning-laws.opening-means flat flat-laws
-
 -- ---- demand 2
 -- 1 and 2 in words: S, G, the lengths and the slot count; the owners, the receive bytes and the slots.
-pub shape-in-words : (d : Desk) → (flat .shaped d ≡ true) ↔ Shaped (d .S) (length (d .owners)) (length (d .send)) (length (d .receive)) (length (d .pool))
+pub shape-in-words : (d : Desk) → (flat .shaped d ≡ true) ↔ Shaped 5 (d .S) (length (d .owners)) (length (d .send)) (length (d .receive)) (length (d .pool))
 shape-in-words = in-words.shape-in-words
 
 pub sound-in-words : (d : Desk) → (flat .sound d ≡ true) ↔ GoodTables d
@@ -100,6 +102,31 @@ share-exactly = exactly.share-exactly flat
 pub sheet-exactly : (d : Desk) (p : ℕ) → FirstOf (lentRows flat d (sheetRows flat d p)) (sheetNumber flat d p)
 sheet-exactly = exactly.sheet-exactly flat
 
+-- So are 14, 15 and 16 of a line and 14, 1 and 2 of an opening line; and the answer line of 17 is all that is written exactly where the input is above 8,192 bytes.
+pub line-exactly : (line : List ℕ) → FirstOf (lineRows line) (refusalIn (readLine line))
+line-exactly = lines-exactly.line-exactly
+
+pub opening-line-exactly : (line : List ℕ) → FirstOf (openingLineRows line) (opening line .answer .number)
+opening-line-exactly = lines-exactly.opening-line-exactly
+
+pub opening-line-reads : (line : List ℕ) → opening line .answer .number ≡ 0 → AsWritten line (opening line .desk)
+opening-line-reads = lines-exactly.opening-line-reads
+
+pub too-long-exactly : (input : List ℕ) → (transcript input ≡ answerLine (refused 17)) ↔ (8192 < length input)
+too-long-exactly = lines-exactly.too-long-exactly
+
+-- Document 01's other edges, on every desk that passes 1 and 2: S = 1, every make copy gives 3 or 4; G = 0, 3; no slots, 7 on a make copy of which no earlier reason holds.
+pub one-site-no-copy : (d : Desk) → lentRefusal flat d ≡ 0 → (from to p : ℕ) → d .S ≡ 1
+    → (step flat d (MakeCopy from to p) .answer .number ≡ 3) ⊎ (step flat d (MakeCopy from to p) .answer .number ≡ 4)
+one-site-no-copy = edge-laws.one-site-no-copy flat
+
+pub no-pointer-no-copy : (d : Desk) → lentRefusal flat d ≡ 0 → (from to p : ℕ) → length (d .owners) ≡ 0 → step flat d (MakeCopy from to p) .answer .number ≡ 3
+no-pointer-no-copy = edge-laws.no-pointer-no-copy flat
+
+pub no-slot-no-copy : (d : Desk) → lentRefusal flat d ≡ 0 → (from to p : ℕ) → flat .slots d ≡ 0 → from < d .S → to < d .S → p < flat .pointers d → from ≢ to
+    → ((from ≢ flat .owner d p) × (flat .cell d from p ≡ 0) → ⊥) → flat .counter d from p ≢ 65535 → step flat d (MakeCopy from to p) .answer .number ≡ 7
+no-slot-no-copy = edge-laws.no-slot-no-copy flat
+
 -- An accepted make copy is MAKE_COPY, an accepted receive is RECEIVE under the published guard, an accepted delete is DELETE; ask changes nothing.
 pub copy-transition : (d : Desk) (from to p : ℕ) → step flat d (MakeCopy from to p) .answer .number ≡ 0 → MakesCopy flat d (step flat d (MakeCopy from to p) .desk) from to p
 copy-transition = demand-2.copy-transition flat flat-laws
@@ -113,6 +140,17 @@ delete-transition = demand-2.delete-transition flat flat-laws
 pub ask-changes-nothing : (d : Desk) (site p : ℕ) → step flat d (Ask site p) .desk ≡ d
 unfolding step
 ask-changes-nothing = demand-1.ask-changes-nothing flat
+
+-- An accepted opening: its answer; what it leaves in every counter, every cell and every slot; it makes the initial configuration of the machine.
+pub opening-answer : (d : Desk) → openDesk flat d .answer .number ≡ 0 → openDesk flat d .answer ≡ accepted 0 Nothing
+opening-answer = opening-laws.opening-answer flat
+
+pub opening-leaves : (d : Desk) → openDesk flat d .answer .number ≡ 0
+    → Reads flat d (openDesk flat d .desk) (λ s p. 0) (λ s p. 1 when eqb s (flat .owner d p)) (λ i. Nothing)
+opening-leaves = opening-laws.opening-leaves flat flat-laws
+
+pub opening-means : (d : Desk) → openDesk flat d .answer .number ≡ 0 → meaning flat (openDesk flat d .desk) ≡ initial (d .S) (flat .pointers d) (flat .owner d)
+opening-means = opening-laws.opening-means flat flat-laws
 
 -- The answer of an accepted call: its value and its message, on any lent tables.
 pub copy-answer : (d : Desk) (from to p : ℕ) → step flat d (MakeCopy from to p) .answer .number ≡ 0 → step flat d (MakeCopy from to p) .answer ≡ accepted (lowestEmpty flat d) (Copy from to p)
@@ -209,7 +247,19 @@ written-of-read = round-trip.written-of-read
 pub fits-of-read : (line : List ℕ) (call : Call) → readLine line ≡ Said call → FieldsFit call
 fits-of-read = round-trip.fits-of-read
 
+-- A text that is too short gives 1 and is kept, whatever the call; one that is long enough starts with the line, and the rest stays.
+pub short-text-kept : (text : List ℕ) (call : Call) → length text < 9 → writeCall text call ≡ record { answer = refused 1; desk = text }
+short-text-kept = written-line.short-text-kept
+
+pub long-text-written : (text : List ℕ) (call : Call) → 9 ≤ length text
+    → (writeCall text call .answer ≡ accepted 0 Nothing) × (take 9 (writeCall text call .desk) ≡ lineOf call) × (drop 9 (writeCall text call .desk) ≡ drop 9 text)
+long-text-written = written-line.long-text-written
+
 -- ---- demand 3
+-- A reached desk passes 1 and 2, and means a configuration that the published machine reaches.
+pub reached-is-reachable : {d : Desk} → Reached flat d → Means flat (Reachable PaperGuard) d
+reached-is-reachable = reached-laws.reached-means flat flat-laws (reachable-lasts PaperGuard) (λ d r s. reached-laws.guarded-by-held flat held d)
+
 -- From an opened desk, after any calls in any order: the owner's counter is 0 if and only if no other site holds the pointer and no message in flight names it.
 pub counter-zero-iff-quiet : {d : Desk} → Reached flat d → (p : ℕ) → p < flat .pointers d → (flat .counter d (flat .owner d p) p ≡ 0) ↔ Quiet flat d p
 counter-zero-iff-quiet r = demand-3.counter-zero-iff-quiet flat flat-laws (stands r)
@@ -217,6 +267,51 @@ counter-zero-iff-quiet r = demand-3.counter-zero-iff-quiet flat flat-laws (stand
 -- Ask answers 1 exactly when the pointer is quiet.
 pub ask-says-quiet : {d : Desk} → Reached flat d → (p : ℕ) → p < flat .pointers d → (step flat d (Ask (flat .owner d p) p) .answer ≡ accepted 1 Nothing) ↔ Quiet flat d p
 ask-says-quiet r = demand-3.ask-says-quiet flat flat-laws (stands r)
+
+-- Ask always tells what the look over every site and every message finds; the look is computed from cells and slots, and finds none exactly where the pointer is quiet, on any lent tables.
+pub ask-tells-the-look : {d : Desk} → Reached flat d → (p : ℕ) → p < flat .pointers d → step flat d (Ask (flat .owner d p) p) .answer ≡ accepted (1 when look flat d p) Nothing
+ask-tells-the-look r = demand-3.ask-tells-the-look flat flat-laws (stands r)
+
+pub look-iff-quiet : (d : Desk) (p : ℕ) → (look flat d p ≡ true) ↔ Quiet flat d p
+look-iff-quiet = demand-3.look-iff-quiet flat
+
+pub accepted-ask-tells-the-look : {d : Desk} → Reached flat d → (site p : ℕ) → step flat d (Ask site p) .answer .number ≡ 0
+    → step flat d (Ask site p) .answer ≡ accepted (1 when look flat d p) Nothing
+accepted-ask-tells-the-look r = demand-3.accepted-ask-tells-the-look flat flat-laws (stands r)
+
+-- The program `desk`, for an input of at most 8,192 bytes whose first line is an accepted opening: before every line its desk is a reached one; answer line k + 1, the 17 characters from (k + 1) x 17 on,
+-- is that of line k; so where line k is an accepted ask, it tells the look over that desk.
+pub desk-before-is-reached : (input opens : List ℕ) (lines : List (List ℕ)) → length input ≤ 8192 → linesOf input ≡ opens ∷ lines → opening opens .answer .number ≡ 0
+    → (k : ℕ) → Reached flat (deskBefore (opening opens .desk) lines k)
+desk-before-is-reached = the-program.desk-before-is-reached
+
+pub answer-line-of-line : (input opens : List ℕ) (lines : List (List ℕ)) → length input ≤ 8192 → linesOf input ≡ opens ∷ lines → opening opens .answer .number ≡ 0
+    → (k : ℕ) → k < length lines
+    → answerLineAt (transcript input) (k + 1) ≡ answerLine (obeyed (deskBefore (opening opens .desk) lines k) (readLine (getD lines k [])) .answer)
+answer-line-of-line = the-program.answer-line-of-line
+
+pub ask-line-tells-the-look : (input opens : List ℕ) (lines : List (List ℕ)) → length input ≤ 8192 → linesOf input ≡ opens ∷ lines → opening opens .answer .number ≡ 0
+    → (k : ℕ) → k < length lines → let d = deskBefore (opening opens .desk) lines k in
+    (site p : ℕ) → readLine (getD lines k []) ≡ Said (Ask site p) → step flat d (Ask site p) .answer .number ≡ 0
+    → answerLineAt (transcript input) (k + 1) ≡ answerLine (accepted (1 when look flat d p) Nothing)
+ask-line-tells-the-look input opens lines few read accepts k l site p said passed =
+    let d = deskBefore (opening opens .desk) lines k in
+    answer-line-of-line input opens lines few read accepts k l
+    ∙ ap (λ (r : Read). answerLine (obeyed d r .answer)) said
+    ∙ ap answerLine (accepted-ask-tells-the-look (desk-before-is-reached input opens lines few read accepts k) site p passed)
+
+-- In characters: where line k writes 04, a site, a pointer and 00, and the answer line at (k + 1) x 17 starts with the digits 00.
+pub ask-characters-tell-the-look : (input opens : List ℕ) (lines : List (List ℕ)) → length input ≤ 8192 → linesOf input ≡ opens ∷ lines → opening opens .answer .number ≡ 0
+    → (k : ℕ) → k < length lines → (site p : ℕ) → site < 256 → p < 256 → getD lines k [] ≡ digitsOf (4 ∷ site ∷ p ∷ 0 ∷ [])
+    → take 2 (answerLineAt (transcript input) (k + 1)) ≡ digitsOf (0 ∷ [])
+    → answerLineAt (transcript input) (k + 1) ≡ answerLine (accepted (1 when look flat (deskBefore (opening opens .desk) lines k) p) Nothing)
+ask-characters-tell-the-look input opens lines few read accepts k l site p ls lp written starts =
+    let d = deskBefore (opening opens .desk) lines k in
+    let said : readLine (getD lines k []) ≡ Said (Ask site p) = ap readLine written ∙ round-trip.read-of-written (Ask site p) (ls, lp) in
+    let answered : answerLineAt (transcript input) (k + 1) ≡ answerLine (step flat d (Ask site p) .answer) =
+    answer-line-of-line input opens lines few read accepts k l ∙ ap (λ (r : Read). answerLine (obeyed d r .answer)) said in
+    ask-line-tells-the-look input opens lines few read accepts k l site p said
+    (the-program.accepted-digits (step flat d (Ask site p) .answer) (ap (take 2) (sym answered) ∙ starts))
 
 -- The incident: while any message names a pointer, ask at its owner answers 0.
 pub ask-waits-for-messages : {d : Desk} → Reached flat d → (p slot : ℕ) → p < flat .pointers d → slot < flat .slots d → names p (flat .message d slot) ≡ true

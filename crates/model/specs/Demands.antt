@@ -2,7 +2,7 @@
 use Prim.Native.Nat.{ℕ, _≤_, _<_}
 use mathlib.Core.Path.{_≡_}
 use mathlib.Core.Logic.{_≢_, _⊎_}
-use mathlib.Core.Bool.{Bool, true, false, _&&_}
+use mathlib.Core.Bool.{Bool, true, false, _&&_, _||_, not}
 use mathlib.Core.List.{List, [], _∷_, _++_}
 use lib.Dec.{eqb}
 use Rattle.moreau.specs.StateSpace.{Msg, DEC, ⟅_⟆, _∈_}
@@ -13,6 +13,7 @@ use Rattle.model.specs.declared.Posted.the-variants.{Copy, Dec, IncDec, 
 use Rattle.model.specs.declared.Call.{Call}
 use Rattle.model.specs.declared.Call.the-variants.{MakeCopy, Receive, Delete, Ask}
 use Rattle.model.specs.Refusals.{BadShape, BadTable, BadName, SameSite, NotHeld, CounterFull, PoolFull, EmptySlot, Held, CounterZero, IsOwner, StillCounted, NotOwner, _when_, _orElse_}
+use Rattle.model.specs.Questions.{every}
 use Rattle.model.specs.Layout.{Layout}
 use Rattle.model.specs.Calls.{openRefusal, openDesk, step}
 use Rattle.model.specs.Meaning.{meant, meaning}
@@ -37,11 +38,15 @@ unfoldable pub _among_ : ℕ → List ℕ → Type 0
 n among [] = ⊥
 n among (k ∷ ks) = (n ≡ k) ⊎ (n among ks)
 
+-- early: the numbers of what comes too early
+abbrev pub listedWith : List ℕ → Call → List ℕ
+listedWith early (MakeCopy from to p) = 1 ∷ 2 ∷ 3 ∷ 4 ∷ 5 ∷ 6 ∷ 7 ∷ []
+listedWith early (Receive slot) = 1 ∷ 2 ∷ 3 ∷ 8 ∷ (early ++ (4 ∷ 10 ∷ 6 ∷ []))
+listedWith early (Delete site p) = 1 ∷ 2 ∷ 3 ∷ 11 ∷ 5 ∷ 12 ∷ 7 ∷ []
+listedWith early (Ask site p) = 1 ∷ 2 ∷ 3 ∷ 13 ∷ []
+
 abbrev pub listed : Call → List ℕ
-listed (MakeCopy from to p) = 1 ∷ 2 ∷ 3 ∷ 4 ∷ 5 ∷ 6 ∷ 7 ∷ []
-listed (Receive slot) = 1 ∷ 2 ∷ 3 ∷ 8 ∷ 4 ∷ 9 ∷ 10 ∷ 6 ∷ []
-listed (Delete site p) = 1 ∷ 2 ∷ 3 ∷ 11 ∷ 5 ∷ 12 ∷ 7 ∷ []
-listed (Ask site p) = 1 ∷ 2 ∷ 3 ∷ 13 ∷ []
+listed = listedWith (Held ∷ [])
 
 -- a message names a pointer
 abbrev pub names : ℕ → Posted → Bool
@@ -56,6 +61,11 @@ controls s p (Copy from to q) = 1 when (eqb from s && eqb q p)
 controls s p (Dec from to q) = 1 when (eqb to s && eqb q p)
 controls s p (IncDec from to third q) = 1 when (eqb third s && eqb q p)
 controls s p Nothing = 0
+
+-- ---- from desks of a given set, after any of a desk's own moves in any order; after d m is the desk that the move m leaves of d
+pub data ReachedFrom {D Move : Type 0} (Start : D → Type 0) (after : D → Move → D) : D → Type 0 where
+  begins : {d : D} → Start d → ReachedFrom Start after d
+  moves : {d : D} → ReachedFrom Start after d → (m : Move) → ReachedFrom Start after (after d m)
 
 module _ {D : Type 0} (L : Layout D) where
   open Layout L using (sites, pointers, owner, counter, cell, slots, empty, message, shaped, owned, sound, early)
@@ -184,12 +194,25 @@ module _ {D : Type 0} (L : Layout D) where
     pub may : MayDelete site p (meaning L d)
     pub after : meaning L e ≡ DELETE site p (meaning L d)
 
-  -- ---- from an opened desk, after any calls in any order: an accepted opening, then calls with any arguments, accepted or refused
-  pub data Reached : D → Type 0 where
-    opened : (d : D) → openRefusal L d ≡ 0 → Reached (openDesk L d .desk)
-    called : {d : D} → Reached d → (c : Call) → Reached (step L d c .desk)
+  -- ---- an accepted opening leaves this desk
+  pub data Opened : D → Type 0 where
+    opened : (d : D) → openRefusal L d ≡ 0 → Opened (openDesk L d .desk)
+
+  -- from an opened desk, after any calls in any order: calls with any arguments, accepted or refused
+  abbrev pub Reached : D → Type 0
+  Reached = ReachedFrom Opened (λ d c. step L d c .desk)
 
   -- ---- no other site holds the pointer and no message in flight names it; no counter is asked
   pub record Quiet (d : D) (p : ℕ) : Type 0 where
     pub no-holder : (s : ℕ) → s < sites d → s ≢ owner d p → cell d s p ≡ 0
     pub no-message : (slot : ℕ) → slot < slots d → names p (message d slot) ≡ false
+
+  -- ---- the look over every site and every message, computed: every other cell is 0, no slot names the pointer; no counter is read
+  abbrev pub notHolding : D → ℕ → ℕ → Bool
+  notHolding d p s = eqb s (owner d p) || eqb (cell d s p) 0
+
+  abbrev pub notNaming : D → ℕ → ℕ → Bool
+  notNaming d p slot = not (names p (message d slot))
+
+  unfoldable pub look : D → ℕ → Bool
+  look d p = every (sites d) (notHolding d p) && every (slots d) (notNaming d p)

@@ -7,6 +7,7 @@ pub mod Calls
 pub mod Survey
 pub mod Laws
 pub mod Tables
+pub mod Parts
 pub mod Flat
 pub mod InWords
 pub mod Meaning
@@ -15,3 +16,4 @@ pub mod Lines
 pub mod Fields
 pub mod Places
 pub mod Transcript
+pub mod LineRows

@@ -5,7 +5,8 @@ use mathlib.Core.List.{List, [], _∷_}
 use lib.Dec.{eqb}
 use Rattle.model.specs.declared.Posted.{Posted}
 use Rattle.model.specs.declared.Posted.the-variants.{Copy, Dec, IncDec, Nothing}
-use Rattle.model.specs.Refusals.{SameSite, CounterFull, CounterZero, _when_}
+use Rattle.model.specs.declared.Effect.{Effect}
+use Rattle.model.specs.Refusals.{SameSite, CounterFull, CounterZero, _when_, _orElse_}
 
 -- Kinds: 0 empty, 1 COPY, 2 DEC, 3 INC_DEC
 abbrev pub kindOf : Posted → ℕ
@@ -36,7 +37,13 @@ isNothing (Dec from to p) = false
 isNothing (IncDec from to third p) = false
 isNothing Nothing = true
 
--- the site that receives it, and its pointer
+-- the site it came from, the site that receives it, and its pointer
+abbrev pub sender : Posted → ℕ
+sender (Copy from to p) = from
+sender (Dec from to p) = from
+sender (IncDec from to third p) = from
+sender Nothing = 0
+
 abbrev pub receiver : Posted → ℕ
 receiver (Copy from to p) = to
 receiver (Dec from to p) = to
@@ -77,6 +84,15 @@ reply (Copy a b p) cell owner = cond (eqb cell 1) (Dec b a p) (cond (eqb a owner
 reply (Dec a b p) cell owner = Nothing
 reply (IncDec a b c p) cell owner = Dec b c p
 reply Nothing cell owner = Nothing
+
+-- what a receive decides, by its number: counter, cell and reply; after a refusal counter and cell stay, and nothing is posted
+abbrev pub effectUnless : ℕ → Posted → ℕ → ℕ → ℕ → Effect
+effectUnless zero m owner cell counter = record { number = 0; counter = counterAfter m counter; cell = cellAfter m cell; posted = reply m cell owner }
+effectUnless (suc n) m owner cell counter = record { number = suc n; counter = counter; cell = cell; posted = Nothing }
+
+-- of the message, the owner, the receiver's cell and counter, and the number of what comes too early; then the message's own
+abbrev pub decided : Posted → ℕ → ℕ → ℕ → ℕ → Effect
+decided m owner cell counter early = effectUnless (early orElse receiveRefusal m counter) m owner cell counter
 
 -- an INC_DEC from a to b for pointer p, with any third site
 abbrev pub isIncDec : ℕ → ℕ → ℕ → Posted → Bool

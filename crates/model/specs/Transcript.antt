@@ -3,7 +3,7 @@ use Prim.Native.Nat.{ℕ, zero, suc, _+_, _-_, _*_, _/_, _%_}
 use mathlib.Core.Bool.{Bool, _&&_, not, cond}
 use mathlib.Core.List.{List, [], _∷_, _++_}
 use lib.Dec.{leb, ltb, eqb}
-use lib.ListN.{length, replicate}
+use lib.ListN.{length, take, drop, replicate}
 use Rattle.model.specs.declared.Answer.{Answer}
 use Rattle.model.specs.declared.Read.{Read}
 use Rattle.model.specs.declared.Read.the-variants.{Said, Refused}
@@ -58,6 +58,16 @@ answers d [] = []
 answers d (line ∷ lines) =
     let o = obeyed d (readLine line) in
     answerLine (o .answer) ++ answers (o .desk) lines
+
+-- the desk before line k of them, of which line 0 finds d
+unfoldable pub deskBefore : Desk → List (List ℕ) → ℕ → Desk
+deskBefore d lines zero = d
+deskBefore d [] (suc k) = d
+deskBefore d (line ∷ lines) (suc k) = deskBefore (obeyed d (readLine line) .desk) lines k
+
+-- answer line k of what is written: 16 digits and a newline
+abbrev pub answerLineAt : List ℕ → ℕ → List ℕ
+answerLineAt text k = take 17 (drop (k * 17) text)
 
 -- ---- the whole
 -- after a refused opening it stops

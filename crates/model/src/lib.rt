@@ -28,6 +28,14 @@ pub struct Answer {
     pub posted: Posted,
 }
 
+// What a receive decides: a refusal number (0: accepted), the receiver's counter and cell after it, and the posted message (Document 01, The calls).
+pub struct Effect {
+    pub number: u8,
+    pub counter: u16,
+    pub cell: u8,
+    pub posted: Posted,
+}
+
 // A share's answer: a refusal number and one signed whole number (Document 01, Share and sheet).
 pub struct Share {
     pub number: u8,

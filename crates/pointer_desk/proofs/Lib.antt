@@ -2,5 +2,7 @@
 pub mod BoundaryLaws
 pub mod SheetLaws
 pub mod EntryLaws
--- A theorem for a reader.
+-- Theorems for a reader.
 pub mod Handed
+pub mod LineForms
+pub mod NoTwoOutcomes

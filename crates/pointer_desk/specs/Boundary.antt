@@ -1,33 +1,40 @@
--- Document 01, "The calls", "Share and sheet", "The address book": answers in C's form.
+-- Document 01, "The calls", "Share and sheet", "The address book", "Lines": answers in C's form.
 use Prim.Native.Nat.{ℕ, _+_, _/_, _%_}
 use mathlib.Core.Bool.{cond}
-use mathlib.Core.List.{List, []}
+use mathlib.Core.List.{List, [], _∷_}
 use lib.Dec.{eqb}
 use lib.ListN.{length, getD}
 use Rattle.model.specs.declared.Answer.{Answer}
 use Rattle.model.specs.declared.Share.{Share}
+use Rattle.model.specs.declared.Read.{Read}
+use Rattle.model.specs.declared.Read.the-variants.{Said, Refused}
+use Rattle.model.specs.declared.Next.{Next}
+use Rattle.model.specs.declared.Next.the-variants.{Line, Ended}
 use Rattle.model.specs.Questions.{upTo}
 use Rattle.model.specs.Refusals.{BadShape}
 use Rattle.model.specs.Messages.{slotOf}
-use Rattle.model.specs.Answers.{Outcome}
+use Rattle.model.specs.Answers.{refused, Outcome}
 use Rattle.model.specs.Tables.{Desk}
 use Rattle.model.specs.Flat.{flat}
 use Rattle.model.specs.Survey.{sheetNumber, sheet}
+use Rattle.model.specs.Lines.{bytesOf, readBytes, writeCall, nextAt}
+use Rattle.model.specs.Places.{movedTo}
 use Rattle.book.specs.Book.{entryAt, lengthByte, addressNumber}
 use Rattle.pointer_desk.specs.declared.answer.DeskAnswer.{DeskAnswer}
 use Rattle.pointer_desk.specs.declared.counts.DeskShare.{DeskShare}
 use Rattle.pointer_desk.specs.declared.addresses.DeskPart.{DeskPart}
+use Rattle.pointer_desk.specs.declared.line.DeskLine.{DeskLine}
 
 -- an answer: number, value, and the message as slot bytes
 abbrev pub flatAnswer : Answer → DeskAnswer
 flatAnswer a = record { number = a .number; value = a .value; message = slotOf (a .posted) }
 
 -- what a host is given: the answer in C's form, and the lent memory as the call leaves it
-pub record Given : Type 0 where
+pub record Given (D : Type 0) : Type 0 where
   pub answer : DeskAnswer
-  pub desk : Desk
+  pub desk : D
 
-abbrev pub given : Outcome Desk → Given
+abbrev pub given : {D : Type 0} → Outcome D → Given D
 given outcome = record { answer = flatAnswer (outcome .answer); desk = outcome .desk }
 
 abbrev pub flatShare : Share → DeskShare
@@ -58,3 +65,31 @@ partGiven s owners book p =
     cond (eqb (addressNumber s owners book p) 0)
     (record { number = 0; at = entryAt book p + 1; length = lengthByte book p })
     (record { number = addressNumber s owners book p; at = 0; length = 0 })
+
+-- ---- lines
+-- what a line says, written at the start of a lent text; where it says no call, its number, and nothing is written
+abbrev pub readWritten : List ℕ → Read → Outcome (List ℕ)
+readWritten text (Said call) = writeCall text call
+readWritten text (Refused n) = record { answer = refused n; desk = text }
+
+-- the call of four bytes, as the reader takes them (15, 16, 14); then 1 for a text that is too short
+abbrev pub lineWritten : List ℕ → ℕ → ℕ → ℕ → ℕ → Outcome (List ℕ)
+lineWritten text code a b c = readWritten text (readBytes code a b c)
+
+-- no call
+abbrev pub noCall : List ℕ
+noCall = 0 ∷ 0 ∷ 0 ∷ 0 ∷ []
+
+-- what a line says: a call's four bytes, or the number of its refusal
+abbrev pub flatRead : Read → ℕ → DeskLine
+flatRead (Said call) at = record { number = 0; ended = 0; call = bytesOf call; at = at }
+flatRead (Refused n) at = record { number = n; ended = 0; call = noCall; at = at }
+
+-- that the reader has ended is neither a call nor a refusal
+abbrev pub flatNext : Next → ℕ → DeskLine
+flatNext (Line read past) at = flatRead read at
+flatNext Ended at = record { number = 0; ended = 1; call = noCall; at = at }
+
+-- what the reader that stands at a place answers, and where it stands then
+abbrev pub lineGiven : List ℕ → ℕ → DeskLine
+lineGiven text at = flatNext (nextAt text at) (movedTo at (nextAt text at))

@@ -1,6 +1,7 @@
 // The address book (Document 01, The address book).
 use crate::answer::DeskAnswer;
 use crate::answer::flat_answer;
+use book::address;
 use book::address_number;
 use book::check;
 use book::entry_place;
@@ -17,25 +18,23 @@ pub struct DeskPart {
     pub length: usize,
 }
 
-// The question for an address.
+// The question for an address: the part that is handed out; it is empty after a refusal, as no address is.
 #[no_mangle]
 pub extern "C" fn desk_book_address(sites: u8, owners: &[u8], book: &[u8], pointer: u8) -> DeskPart
     ensures { λ r. ⌜ r ≡ partGiven sites (now (owners .entry)) (now (book .entry)) pointer ⌝ }
 {
-    let number = address_number(sites, owners, book, pointer);
-    if number != 0 {
+    let length = address(sites, owners, book, pointer).len();
+    if length == 0 {
         return DeskPart {
-            number,
+            number: address_number(sites, owners, book, pointer),
             at: 0,
             length: 0,
         };
     }
     let entry = entry_place(sites, owners, book, pointer);
-    let at = entry + 1;
-    let length = book[entry] as usize;
     DeskPart {
         number: 0,
-        at,
+        at: entry + 1,
         length,
     }
 }

@@ -1,7 +1,7 @@
 // Share and sheet (Document 01, Share and sheet).
-use survey::share::share;
-use survey::sheet::sheet_by;
-use survey::sheet::sheet_number;
+use bytes::share::share;
+use bytes::sheet::sheet_by;
+use bytes::sheet::sheet_number;
 ghost use mathlib.Core.Path.{_≡_};
 ghost use Prim.Native.Nat.{_+_, _*_, _<_};
 ghost use lib.ListN.{length, take};

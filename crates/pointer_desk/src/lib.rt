@@ -2,5 +2,6 @@
 mod addresses;
 mod answer;
 mod counts;
+mod line;
 mod machine;
 mod program;

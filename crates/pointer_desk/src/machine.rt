@@ -1,11 +1,11 @@
 // The calls of the machine (Document 01, What the host lends, The calls).
 use crate::answer::DeskAnswer;
 use crate::answer::flat_answer;
-use calls::ask::ask;
-use calls::copy::make_copy;
-use calls::delete::delete;
-use calls::receive::receive as receive_slot;
-use tables::opening::open_desk;
+use bytes::ask::ask;
+use bytes::copy::make_copy;
+use bytes::delete::delete;
+use bytes::opening::open_desk;
+use bytes::receive::receive as receive_slot;
 ghost use mathlib.Core.Path.{_≡_};
 ghost use Rattle.model.specs.Tables.{lent};
 ghost use Rattle.model.specs.Calls.{openDesk, makeCopy, receive as receiveOf, delete as deleteOf, ask as askOf};

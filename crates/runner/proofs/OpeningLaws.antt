@@ -18,7 +18,7 @@ use Rattle.model.specs.Transcript.{openingForm, sitesIn, slotsIn, ownersIn, fre
 use Rattle.model.proofs.TestLaws.{and-both}
 use Rattle.model.proofs.QuestionLaws.{every-at, length-up-to}
 use Rattle.model.proofs.ShapeLaws.{shaped}
-use Rattle.tables.proofs.OpeningLaws.{shape-refused}
+use Rattle.bytes.proofs.OpeningLaws.{shape-refused}
 use Rattle.runner.specs.declared.opening.Opening.the-variants.{Asks, Refused}
 use Rattle.runner.specs.Opened.{pointersIn, asked, readOpening, Opens}
 

@@ -1,6 +1,6 @@
 -- A whole run, in plain words: no two results meet its promise, the transcript always fits, stands first, and the rest is as it was.
 use Prim.Native.Nat.{ℕ, zero, suc, _+_, _*_, _≤_}
-use mathlib.Core.Path.{_≡_, refl, sym, ap, _∙_}
+use mathlib.Core.Path.{_≡_, refl, ap, _∙_}
 use mathlib.Core.Bool.{Bool, true, false, cond}
 use mathlib.Core.List.{List, [], _∷_, _++_}
 use native.Mathlib.Omega.{arith}
@@ -14,6 +14,7 @@ use Rattle.model.specs.Lines.{linesOf, readLine}
 use Rattle.model.specs.Transcript.{answerLine, obeyed, answers, goesOn, opening, session, transcript}
 use Rattle.lines.proofs.StoreLaws.{length-answer-line}
 use Rattle.model.proofs.EachLineOnce.{each-line-once}
+use Rattle.model.proofs.OneOutcome.{one-outcome}
 use Rattle.runner.specs.Run.{Written, written, room, run}
 
 -- ---- the greatest length
@@ -77,6 +78,11 @@ transcript-first input output h e =
     let start : 0 + length text ≡ length text = omega arith in
     (ap (λ (x : Written). x .output) q ∙ sets-eq text output 0 (omega (arith, transcript-fits input)) ∙ ap (λ (k : ℕ). text ++ drop k output) start, ap (λ (x : Written). x .count) q)
 
--- no two results meet the promise
-pub no-two-results : (input output : List ℕ) {v w : Written} → v ≡ run input output → w ≡ run input output → (v .output ≡ w .output) × (v .count ≡ w .count)
-no-two-results input output e f = let same = e ∙ sym f in (ap (λ (x : Written). x .output) same, ap (λ (x : Written). x .count) same)
+-- ---- no two results meet the promise
+module _ (input output : List ℕ) where
+  -- what `run` promises
+  abbrev pub RunPromise : ℕ → List ℕ → Type 0
+  RunPromise r output′ = record { output = output′; count = r } ≡ run input output
+
+  pub no-two-results : {r q : ℕ} {output′ output″ : List ℕ} → RunPromise r output′ → RunPromise q output″ → (r ≡ q) × (output′ ≡ output″)
+  no-two-results e f = (one-outcome (λ (w : Written). w .count) e f, one-outcome (λ (w : Written). w .output) e f)

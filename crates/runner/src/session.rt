@@ -3,20 +3,20 @@ use crate::opening::Opening;
 use crate::opening::fill_owners;
 use crate::opening::number_in;
 use crate::opening::read_opening;
-use calls::ask::ask;
-use calls::copy::make_copy;
-use calls::delete::delete;
-use calls::receive::receive as receive_call;
+use bytes::ask::ask;
+use bytes::copy::make_copy;
+use bytes::delete::delete;
+use bytes::opening::open_desk;
+use bytes::receive::receive as receive_call;
 use lines::reader::line_end;
-use lines::reader::next_at;
-use lines::reader::past_at;
+use lines::reader::next_from;
+use lines::reader::past_first;
 use lines::write::put_answer;
 use model::Answer;
 use model::Call;
 use model::Next;
 use model::Read;
 use rules::answer::refused;
-use tables::opening::open_desk;
 ghost use mathlib.Core.Path.{_≡_};
 ghost use mathlib.Core.Bool.{true};
 ghost use Prim.Native.Nat.{_+_, _*_, _≤_, _<_};
@@ -82,7 +82,7 @@ fn answer_lines(
     let mut at = 0;
     let mut end = 17;
     loop {
-        let next = next_at(text, at);
+        let next = next_from(text, at);
         let Next::Line { read, at: past } = next else {
             break;
         };
@@ -155,7 +155,7 @@ pub(crate) fn begin(input: &[u8], output: &mut [u8]) -> usize
     ensures { λ r. ⌜ record { output = now (output .exit); count = r } ≡ written (now (output .entry)) (sessionOf (linesOf (now (input .entry)))) ⌝ }
 {
     let end = line_end(input, 0);
-    let from = past_at(input, 0);
+    let from = past_first(input);
     let opening = read_opening(&input[..end]);
     let Opening::Asks { s, slots } = opening else {
         put_answer(output, 0, refused(number_in(opening)));

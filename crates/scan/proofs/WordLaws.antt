@@ -95,17 +95,17 @@ module _ (pool : List ℕ) (bytes : (j : ℕ) → Fits w8 (getD pool j 0)) where
   byte : (j : ℕ) → getD pool j 0 < 256
   byte j = omega (arith, bytes j)
 
-  pub slot-cut : (i : ℕ) → eightAt pool (i * 5) % 1099511627776 ≡ atSlot packed pool i
+  pub slot-cut : (i : ℕ) → eightAt pool (i * 5) % 1099511627776 ≡ atSlot 5 packed pool i
   slot-cut i = eight-cut _ _ _ _ _ _ _ _ (byte (i * 5)) (byte (i * 5 + 1)) (byte (i * 5 + 2)) (byte (i * 5 + 3)) (byte (i * 5 + 4))
 
-  pub slot-good : (s g i : ℕ) → s ≤ 64 → g ≤ 256 → wordGood (rooms s g) (atSlot packed pool i) ≡ atSlot (slotGood s g) pool i
+  pub slot-good : (s g i : ℕ) → s ≤ 64 → g ≤ 256 → wordGood (rooms s g) (atSlot 5 packed pool i) ≡ atSlot 5 (slotGood s g) pool i
   slot-good s g i ls lg = word-good s g _ _ _ _ (byte (i * 5 + 1)) (byte (i * 5 + 2)) (byte (i * 5 + 3)) (byte (i * 5 + 4)) _ (byte (i * 5)) ls lg
 
   -- the last slot is seen too, and those before it
   pub slots-last : (s g : ℕ) {room : List ℕ} → room ≡ rooms s g → s ≤ 64 → g ≤ 256 → (n i seen x : ℕ) → i + 1 ≡ n
-      → clear slotMask seen ≡ every i (λ k. wordGood room (atSlot packed pool k)) → clear slotMask x ≡ wordGood room (atSlot packed pool i)
-      → clear slotMask (bitOr seen x) ≡ every n (atSlot (slotGood s g) pool)
+      → clear slotMask seen ≡ every i (λ k. wordGood room (atSlot 5 packed pool k)) → clear slotMask x ≡ wordGood room (atSlot 5 packed pool i)
+      → clear slotMask (bitOr seen x) ≡ every n (atSlot 5 (slotGood s g) pool)
   slots-last s g {room} er ls lg n i seen x en before e =
       seen-more slotMask _ i n seen x en before e
-      ∙ ap (λ (r : List ℕ). every n (λ k. wordGood r (atSlot packed pool k))) er
+      ∙ ap (λ (r : List ℕ). every n (λ k. wordGood r (atSlot 5 packed pool k))) er
       ∙ (λ w. every n (λ k. slot-good s g k ls lg w))

@@ -64,7 +64,7 @@ pub(crate) fn eight_at(bytes: &[u8], at: usize) -> u64
 // A slot as one number, where three bytes follow it: eight bytes are read, and the slot's five kept.
 fn word_within(pool: &[u8], slot: usize) -> u64
     requires { ⌜ slot * 5 + 8 ≤ length (now pool) ⌝ }
-    ensures { λ r. ⌜ (r ≡ atSlot packed (now (pool .entry)) slot) × (r < 1099511627776) ⌝ }
+    ensures { λ r. ⌜ (r ≡ atSlot 5 packed (now (pool .entry)) slot) × (r < 1099511627776) ⌝ }
 {
     eight_at(pool, slot * 5) % 0x100_0000_0000
 }
@@ -72,7 +72,7 @@ fn word_within(pool: &[u8], slot: usize) -> u64
 // A slot as one number, wherever it stands.
 fn word_at(pool: &[u8], slot: usize) -> u64
     requires { ⌜ slot * 5 + 5 ≤ length (now pool) ⌝ }
-    ensures { λ r. ⌜ (r ≡ atSlot packed (now (pool .entry)) slot) × (r < 1099511627776) ⌝ }
+    ensures { λ r. ⌜ (r ≡ atSlot 5 packed (now (pool .entry)) slot) × (r < 1099511627776) ⌝ }
 {
     let at = slot * 5;
     word_of(
@@ -111,7 +111,7 @@ fn shown(room: &[u64; 4], x: u64) -> u64
 // What a slot shows, where three bytes follow it.
 fn shown_at(room: &[u64; 4], pool: &[u8], slot: usize) -> u64
     requires { ⌜ Roomy (now room) × (slot * 5 + 8 ≤ length (now pool)) ⌝ }
-    ensures { λ r. ⌜ clear slotMask r ≡ wordGood (now (room .entry)) (atSlot packed (now (pool .entry)) slot) ⌝ }
+    ensures { λ r. ⌜ clear slotMask r ≡ wordGood (now (room .entry)) (atSlot 5 packed (now (pool .entry)) slot) ⌝ }
 {
     shown(room, word_within(pool, slot))
 }
@@ -125,8 +125,8 @@ struct Seen {
 // What is seen with one slot more, where three bytes follow it.
 fn with_slot(seen: Seen, room: &[u64; 4], pool: &[u8], slot: usize) -> Seen
     requires { ⌜ Roomy (now room) × (slot * 5 + 8 ≤ length (now pool)) ⌝ }
-    requires { ⌜ clear slotMask (bitOr (seen .numbers) (seen .sums)) ≡ every slot (λ i. wordGood (now room) (atSlot packed (now pool) i)) ⌝ }
-    ensures { λ r. ⌜ clear slotMask (bitOr (r .numbers) (r .sums)) ≡ every (slot + 1) (λ i. wordGood (now (room .entry)) (atSlot packed (now (pool .entry)) i)) ⌝ }
+    requires { ⌜ clear slotMask (bitOr (seen .numbers) (seen .sums)) ≡ every slot (λ i. wordGood (now room) (atSlot 5 packed (now pool) i)) ⌝ }
+    ensures { λ r. ⌜ clear slotMask (bitOr (r .numbers) (r .sums)) ≡ every (slot + 1) (λ i. wordGood (now (room .entry)) (atSlot 5 packed (now (pool .entry)) i)) ⌝ }
 {
     let x = word_within(pool, slot);
     let numbers = seen.numbers | x;
@@ -137,7 +137,7 @@ fn with_slot(seen: Seen, room: &[u64; 4], pool: &[u8], slot: usize) -> Seen
 // What the slots of the first groups of four show.
 fn groups_shown(room: &[u64; 4], pool: &[u8], groups: usize) -> u64
     requires { ⌜ Roomy (now room) × (groups * 20 + 3 ≤ length (now pool)) ⌝ }
-    ensures { λ r. ⌜ clear slotMask r ≡ every (groups * 4) (λ i. wordGood (now (room .entry)) (atSlot packed (now (pool .entry)) i)) ⌝ }
+    ensures { λ r. ⌜ clear slotMask r ≡ every (groups * 4) (λ i. wordGood (now (room .entry)) (atSlot 5 packed (now (pool .entry)) i)) ⌝ }
 {
     let mut seen = Seen {
         numbers: 0,
@@ -157,8 +157,8 @@ fn groups_shown(room: &[u64; 4], pool: &[u8], groups: usize) -> u64
 
 // What up to three slots more show, and those before.
 fn rest_shown(room: &[u64; 4], pool: &[u8], from: usize, to: usize, first: u64) -> u64
-    requires { ⌜ Roomy (now room) × (from ≤ to) × (to ≤ from + 3) × (to * 5 + 3 ≤ length (now pool)) × (clear slotMask first ≡ every from (λ i. wordGood (now room) (atSlot packed (now pool) i))) ⌝ }
-    ensures { λ r. ⌜ clear slotMask r ≡ every to (λ i. wordGood (now (room .entry)) (atSlot packed (now (pool .entry)) i)) ⌝ }
+    requires { ⌜ Roomy (now room) × (from ≤ to) × (to ≤ from + 3) × (to * 5 + 3 ≤ length (now pool)) × (clear slotMask first ≡ every from (λ i. wordGood (now room) (atSlot 5 packed (now pool) i))) ⌝ }
+    ensures { λ r. ⌜ clear slotMask r ≡ every to (λ i. wordGood (now (room .entry)) (atSlot 5 packed (now (pool .entry)) i)) ⌝ }
 {
     if to <= from {
         return first;
@@ -177,7 +177,7 @@ fn rest_shown(room: &[u64; 4], pool: &[u8], from: usize, to: usize, first: u64) 
 // Whether every slot is good: a field above its limit carries into its top bit, or shows there by itself.
 pub fn all_slots_good(s: u8, g: usize, pool: &[u8]) -> bool
     requires { ⌜ (s ≤ 64) × (g ≤ 256) ⌝ }
-    ensures { λ r. ⌜ r ≡ allSlotsGood s g (now (pool .entry)) ⌝ }
+    ensures { λ r. ⌜ r ≡ allSlotsGood 5 s g (now (pool .entry)) ⌝ }
 {
     let n = pool.len() / 5;
     if n == 0 {

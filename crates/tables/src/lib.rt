@@ -1,7 +1,6 @@
-// The lent tables: the tests 1, 2 and 3, the opening, places, and the slots of the pool.
-pub mod front;
-pub mod lent;
-pub mod opening;
+// The lent tables of numbers: sizes, places, what an opening writes, owners.
+pub mod clear;
+pub mod owners;
 pub mod place;
-pub mod pool;
+pub mod rows;
 pub mod shape;

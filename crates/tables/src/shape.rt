@@ -17,5 +17,5 @@ pub fn shape_good(s: u8, g: usize, sends: usize, receives: usize, pools: usize) 
         return false;
     }
     let cells = (s as usize) * g;
-    (sends == cells) & (receives == cells) & (pools % 5 == 0) & (pools / 5 <= 1024)
+    (sends == cells) & (receives == cells) & ((pools % 5 == 0) & (pools / 5 <= 1024))
 }

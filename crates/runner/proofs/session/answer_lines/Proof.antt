@@ -37,7 +37,7 @@ calling c = c .before .before .before .before .before .before .before .before .b
 -- a line starts there: what it says, and the place past it
 line : (c : tie.After-next Inv-loop μ-loop) → let m = c .before .before .before in let text = start m .args .text .now in
     (m .loop .at < length text) × (c .next .given .0 .0 ≡ readLine (lineAt text (m .loop .at))) × (c .next .given .0 .1 .0 ≡ pastAt text (m .loop .at))
-line c = let m = c .before .before .before in line-said (start m .args .text .now) (m .loop .at) (sym (c .before .before .next-at .ensures) ∙ c .next .given .1)
+line c = let m = c .before .before .before in line-said (start m .args .text .now) (m .loop .at) (sym (c .before .before .next-from .ensures) ∙ c .next .given .1)
 
 -- its answer line fits, and the place is further on
 fits : (c : tie.After-next Inv-loop μ-loop) → let m = c .before .before .before in m .loop .end + 17 ≤ length (m .loop .output)
@@ -49,8 +49,8 @@ onward c = let m = c .before .before .before in omega (arith, line c .0, line c 
 loop-holds : tie.Need-loop-holds Inv-loop μ-loop
 loop-holds c = (refl, refl, refl, all-left _ _ _)
 
-next-at-requires : tie.Need-next-at-requires Inv-loop μ-loop
-next-at-requires c κs = search needs
+next-from-requires : tie.Need-next-from-requires Inv-loop μ-loop
+next-from-requires c κs = search needs
 
 enum-known-next : tie.Need-enum-known-next Inv-loop μ-loop
 enum-known-next c = search needs
@@ -130,7 +130,7 @@ returns : tie.Need-returns Inv-loop μ-loop
 returns c =
     let m = c .before .before .before in
     none-left (desk m) (start m .args .text .now) (m .loop .at) (m .loop .output) (m .loop .end)
-    (ended-said (start m .args .text .now) (m .loop .at) (sym (c .before .before .next-at .ensures) ∙ c .enum-told .given .1)) (m .loop .inv .3)
+    (ended-said (start m .args .text .now) (m .loop .at) (sym (c .before .before .next-from .ensures) ∙ c .enum-told .given .1)) (m .loop .inv .3)
 
 pub answer-lines-spec : {M : Type 1} → statement M
 answer-lines-spec =
@@ -139,7 +139,7 @@ answer-lines-spec =
     Inv-loop
     μ-loop
     loop-holds
-    next-at-requires
+    next-from-requires
     enum-known-next
     enum-told
     enum-known-read

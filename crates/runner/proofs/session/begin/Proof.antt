@@ -21,32 +21,32 @@ use Rattle.runner.proofs.BegunLaws.{one-line, stops-turned-down, past-f
 use Rattle.runner.proofs.session.begin.Statement.{statement}
 use Rattle.runner.proofs.session.begin.Tie as tie
 
-abbrev start : tie.After-past-at → tie.Start
+abbrev start : tie.After-past-first → tie.Start
 start c = c .before .before .before .before
 
-within : (c : tie.After-past-at) → c .before .line-end .result ≤ length (start c .args .input .now)
+within : (c : tie.After-past-first) → c .before .line-end .result ≤ length (start c .args .input .now)
 within c = omega (arith, c .before .line-end .ensures, end-most (start c .args .input .now) 0 (omega arith))
 
-line-long : (c : tie.After-past-at) → c .before .line-end .result ≡ length (take (c .before .line-end .result) (start c .args .input .now))
+line-long : (c : tie.After-past-first) → c .before .line-end .result ≡ length (take (c .before .line-end .result) (start c .args .input .now))
 line-long c = sym (length-take-le (c .before .line-end .result) (start c .args .input .now) (within c))
 
 -- the place past the first line
-past : (c : tie.After-past-at) → (0 < c .past-at .result) × (c .past-at .result ≤ length (start c .args .input .now))
-past c = past-first (start c .args .input .now) (start c .pre .0) (c .past-at .ensures)
+past : (c : tie.After-past-first) → (0 < c .past-first .result) × (c .past-first .result ≤ length (start c .args .input .now))
+past c = past-first (start c .args .input .now) (start c .pre .0) (c .past-first .ensures)
 
-first : (c : tie.After-past-at) → let t = start c .args .input .now in
-    begun (opening (take (c .before .line-end .result) t)) (linesOf (drop (c .past-at .result) t)) ≡ session (linesOf t)
-first c = begins (start c .args .input .now) (start c .pre .0) (c .before .line-end .ensures) (c .past-at .ensures)
+first : (c : tie.After-past-first) → let t = start c .args .input .now in
+    begun (opening (take (c .before .line-end .result) t)) (linesOf (drop (c .past-first .result) t)) ≡ session (linesOf t)
+first c = begins (start c .args .input .now) (start c .pre .0) (c .before .line-end .ensures) (c .past-first .ensures)
 
 -- what follows the first line, as the code cuts it
-rest-whole : (c : tie.After-past-at) → let t = start c .args .input .now in take (length t - c .past-at .result) (drop (c .past-at .result) t) ≡ drop (c .past-at .result) t
-rest-whole c = let t = start c .args .input .now in take-all (length t - c .past-at .result) (drop (c .past-at .result) t) (omega (arith, length-drop (c .past-at .result) t))
+rest-whole : (c : tie.After-past-first) → let t = start c .args .input .now in take (length t - c .past-first .result) (drop (c .past-first .result) t) ≡ drop (c .past-first .result) t
+rest-whole c = let t = start c .args .input .now in take-all (length t - c .past-first .result) (drop (c .past-first .result) t) (omega (arith, length-drop (c .past-first .result) t))
 
 line-end-requires : tie.Need-line-end-requires
 line-end-requires c κs = search needs
 
-past-at-requires : tie.Need-past-at-requires
-past-at-requires c κs = search needs
+past-first-requires : tie.Need-past-first-requires
+past-first-requires c κs = search needs
 
 slice-aggregate-read-opening : tie.Need-slice-aggregate-read-opening
 slice-aggregate-read-opening c = line-long (c .before)
@@ -80,7 +80,7 @@ returns c =
     let a = start p .args in
     let answered = c .before .before .before .refused .ensures ∙ ap refused (c .before .before .before .before .number-in .ensures ∙ ap numberIn (told .enum-told .given .1)) in
     one-line (a .output .now) (refused _) (c .before .before .put-answer .ensures ∙ ap (λ (r : Answer). sets (a .output .now) 0 (answerLine r)) answered)
-    ∙ ap (written (a .output .now)) (stops-turned-down (linesOf (drop (p .past-at .result) (a .input .now))) (turned-down (take (p .before .line-end .result) (a .input .now)) (sym (o .read-opening .ensures) ∙ told .enum-told .given .1)) ∙ first p)
+    ∙ ap (written (a .output .now)) (stops-turned-down (linesOf (drop (p .past-first .result) (a .input .now))) (turned-down (take (p .before .line-end .result) (a .input .now)) (sym (o .read-opening .ensures) ∙ told .enum-told .given .1)) ∙ first p)
 
 slice-aggregate-with-tables : tie.Need-slice-aggregate-with-tables
 slice-aggregate-with-tables c = line-long (c .before .before .before .before .before .before)
@@ -100,7 +100,7 @@ with-tables-requires c κs =
     let o = k .before .before in
     let p = o .before .before in
     let t = start p .args .input .now in
-    (opens (take (p .before .line-end .result) t) (sym (o .read-opening .ensures) ∙ k .opening .given .1), omega (arith, past p, start p .pre, length-drop (p .past-at .result) t))
+    (opens (take (p .before .line-end .result) t) (sym (o .read-opening .ensures) ∙ k .opening .given .1), omega (arith, past p, start p .pre, length-drop (p .past-first .result) t))
 
 same-length-2 : tie.Need-same-length-2
 same-length-2 c = search needs
@@ -115,7 +115,7 @@ returns-2 c =
     let asked = opens line (sym (o .read-opening .ensures) ∙ k .opening .given .1) in
     c .before .before .with-tables .ensures
     ∙ ap (λ (rest : List ℕ). written (a .output .now) (begun (openDesk flat (fresh (k .opening .given .0 .0) (ownersIn line) (k .opening .given .0 .1 .0))) (linesOf rest))) (rest-whole p)
-    ∙ ap (λ (x : Outcome Desk). written (a .output .now) (begun x (linesOf (drop (p .past-at .result) (a .input .now))))) (opens-fresh line asked)
+    ∙ ap (λ (x : Outcome Desk). written (a .output .now) (begun x (linesOf (drop (p .past-first .result) (a .input .now))))) (opens-fresh line asked)
     ∙ ap (written (a .output .now)) (first p)
 
 pub begin-spec : {M : Type 1} → statement M
@@ -123,7 +123,7 @@ begin-spec =
     tie.close
     (tie.spec
     line-end-requires
-    past-at-requires
+    past-first-requires
     slice-aggregate-read-opening
     read-opening-requires
     enum-known-opening

@@ -12,7 +12,7 @@ use Rattle.scan.proofs.word.groups_shown.Tie as tie
 
 abbrev Inv-loop : tie.InvT-loop
 Inv-loop room pool groups seen₀ j₀ seen j =
-    (j ≤ groups) × (clear slotMask (bitOr (seen .numbers) (seen .sums)) ≡ every (j * 4) (λ k. wordGood room (atSlot packed pool k)))
+    (j ≤ groups) × (clear slotMask (bitOr (seen .numbers) (seen .sums)) ≡ every (j * 4) (λ k. wordGood room (atSlot 5 packed pool k)))
 
 abbrev μ-loop : tie.MeasureT-loop
 μ-loop room pool groups seen₀ j₀ seen j = groups - j

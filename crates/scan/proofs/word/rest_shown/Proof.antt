@@ -14,7 +14,7 @@ use Rattle.scan.proofs.word.rest_shown.Statement.{statement}
 use Rattle.scan.proofs.word.rest_shown.Tie as tie
 
 abbrev good : tie.Start → ℕ → Bool
-good c i = wordGood (c .args .room .now) (atSlot packed (c .args .pool .now) i)
+good c i = wordGood (c .args .room .now) (atSlot 5 packed (c .args .pool .now) i)
 
 seen-one : (c : tie.After-shown-at) → let d = c .before .before .before in clear slotMask (bitOr (d .args .first) (c .shown-at .result)) ≡ every (d .args .from + 1) (good d)
 seen-one c =

@@ -29,7 +29,7 @@ returns c =
     let word = c .before .before .before .word-within in
     let start = c .before .before .before .before .before in
     let a = start .args in
-    apart-more slotMask (λ k. wordGood (a .room .now) (atSlot packed (a .pool .now) k)) (a .slot) (a .seen .numbers) (a .seen .sums) (word .result) (word .result + getD (a .room .now) (word .result % 4) 0) (start .pre .1)
+    apart-more slotMask (λ k. wordGood (a .room .now) (atSlot 5 packed (a .pool .now) k)) (a .slot) (a .seen .numbers) (a .seen .sums) (word .result) (word .result + getD (a .room .now) (word .result % 4) 0) (start .pre .1)
     (ap (wordGood (a .room .now)) (word .ensures .0))
 
 pub with-slot-spec : {M : Type 1} → statement M

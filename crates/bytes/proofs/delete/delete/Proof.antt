@@ -1,0 +1,159 @@
+-- Delete meets its promise: 1, 2, 3, then 11, 5, 12, 7, then the cell and the slot.
+use Prim.Native.Nat.{_<_}
+use mathlib.Core.Path.{_≡_, sym, _∙_}
+use native.Mathlib.Omega.{arith}
+use lib.ListN.{length}
+use borrow.Author.Needs.{needs}
+use borrow.Author.Tests.{ltb-true}
+use Rattle.model.specs.Calls.{deleteRefusal, lowestEmpty, deleteNumber, delete}
+use Rattle.model.specs.Tables.{Desk, lent, slotsOf}
+use Rattle.model.specs.Flat.{flat}
+use Rattle.model.proofs.TestLaws.{refused-by-front, refused-by-own, accepted-by-both}
+use Rattle.bytes.proofs.FrontLaws.{Ready, ready-names}
+use Rattle.bytes.proofs.EffectLaws.{delete-clear, read-as, deleted-as}
+use Rattle.bytes.proofs.delete.delete.Statement.{statement}
+use Rattle.bytes.proofs.delete.delete.Tie as tie
+
+abbrev start : tie.After-front → tie.Start
+start c = c .before .before .before .before .before .before .before
+
+abbrev desk : tie.Start → Desk
+desk c = lent (c .args .s) (c .args .owners .now) (c .args .send .now) (c .args .receive .now) (c .args .pool .now)
+
+front-requires : tie.Need-front-requires
+front-requires c κs = search needs
+
+refused-requires : tie.Need-refused-requires
+refused-requires c κs = search needs
+
+same-length : tie.Need-same-length
+same-length c = search needs
+
+same-length-2 : tie.Need-same-length-2
+same-length-2 c = search needs
+
+returns : tie.Need-returns
+unfolding delete deleteNumber
+returns c = refused-by-front (desk (start (c .before .before))) _ _ _ _ (c .before .if1 .taken) (c .before .before .front .ensures) (c .refused .ensures)
+
+known : (c : tie.Else1) → let a = start (c .before) .args in Ready (desk (start (c .before))) (a .site) (a .pointer)
+known c = ready-names (desk (start (c .before))) _ _ _ (ltb-true _ _) (c .before .front .ensures) (c .if1 .left)
+
+-- the site's place
+in-send : (c : tie.After-place-of) → c .place-of .result < length (start (c .before .before) .args .send .now)
+in-send c = rw (c .place-of .ensures) (known (c .before) .in-send)
+
+in-receive : (c : tie.After-place-of) → c .place-of .result < length (start (c .before .before) .args .receive .now)
+in-receive c = rw (c .place-of .ensures) (known (c .before) .in-receive)
+
+-- from the call's own tests back to the place
+abbrev place-of : tie.After-delete-refusal → tie.After-place-of
+place-of c = c .before .before .before .before .before .before
+
+-- 11, 5, 12, 7, of the desk
+own : (c : tie.After-delete-refusal) → let b = start (place-of c .before .before) in let d = desk b in let a = b .args in
+    c .delete-refusal .result ≡ deleteRefusal (a .site) (flat .owner d (a .pointer)) (flat .cell d (a .site) (a .pointer)) (flat .counter d (a .site) (a .pointer)) (lowestEmpty flat d) (flat .slots d)
+own c =
+    let b = start (place-of c .before .before) in
+    let a = b .args in
+    c .delete-refusal .ensures
+    ∙ read-as (desk b) (a .site) (a .pointer) (place-of c .place-of .ensures) (c .before .before .before .lowest-empty .ensures)
+    (λ cell counter slot. deleteRefusal (a .site) (flat .owner (desk b) (a .pointer)) cell counter slot (slotsOf 5 (a .pool .now)))
+
+place-of-requires : tie.Need-place-of-requires
+place-of-requires c κs = known c .few-pointers
+
+shared-slice-read-owner : tie.Need-shared-slice-read-owner
+shared-slice-read-owner c = known (c .before .before) .a-pointer
+
+lowest-empty-requires : tie.Need-lowest-empty-requires
+lowest-empty-requires c κs = search needs
+
+slice-read-delete-refusal : tie.Need-slice-read-delete-refusal
+slice-read-delete-refusal c = in-receive (c .before .before .before .before)
+
+mul-delete-refusal : tie.Need-mul-delete-refusal
+mul-delete-refusal c = let o = c .before .before .before .before in omega (arith, in-send o, start (o .before .before) .good)
+
+shared-slice-read-delete-refusal : tie.Need-shared-slice-read-delete-refusal
+shared-slice-read-delete-refusal c = in-send (c .before .before .before .before .before)
+
+delete-refusal-requires : tie.Need-delete-refusal-requires
+delete-refusal-requires c κs = search needs
+
+refused-requires-2 : tie.Need-refused-requires-2
+refused-requires-2 c κs = search needs
+
+same-length-3 : tie.Need-same-length-3
+same-length-3 c = search needs
+
+same-length-4 : tie.Need-same-length-4
+same-length-4 c = search needs
+
+returns-2 : tie.Need-returns-2
+unfolding delete deleteNumber
+returns-2 c =
+    let k = c .before .before in
+    let e = place-of k .before in
+    refused-by-own (desk (start (e .before))) _ (k .delete-refusal .result) _ _ (sym (e .before .front .ensures) ∙ e .if1 .left) (c .before .if2 .taken) (own k) (c .refused2 .ensures)
+
+-- none of them is given: the slot is empty
+clear : (c : tie.Else2) → let k = c .before in k .before .before .before .lowest-empty .result < slotsOf 5 (start (place-of k .before .before) .args .pool .now)
+clear c = delete-clear _ _ _ _ _ _ (sym (c .before .delete-refusal .ensures) ∙ c .if2 .left)
+
+slice-write-receive : tie.Need-slice-write-receive
+slice-write-receive c = in-receive (place-of (c .before))
+
+write-slot-requires : tie.Need-write-slot-requires
+write-slot-requires c κs = omega (arith, clear (c .before))
+
+cast-accepted : tie.Need-cast-accepted
+cast-accepted c = let e = c .before .before .before .before in omega (arith, clear e, known (place-of (e .before) .before) .few-slots)
+
+accepted-requires : tie.Need-accepted-requires
+accepted-requires c κs = search needs
+
+same-length-5 : tie.Need-same-length-5
+same-length-5 c = search needs
+
+same-length-6 : tie.Need-same-length-6
+same-length-6 c = search needs
+
+returns-3 : tie.Need-returns-3
+unfolding delete deleteNumber
+returns-3 c =
+    let w = c .before .before .before in
+    let o = w .before .before in
+    let k = o .before in
+    let e = place-of k .before in
+    let d = desk (start (e .before)) in
+    deleted-as d _ _ (place-of k .place-of .ensures) (k .before .before .before .lowest-empty .ensures) (c .accepted .ensures) (w .write-slot .ensures)
+    ∙ accepted-by-both d _ _ _ (sym (e .before .front .ensures) ∙ e .if1 .left) (sym (own k) ∙ o .if2 .left)
+
+pub delete-spec : {M : Type 1} → statement M
+delete-spec =
+    tie.close
+    (tie.spec
+    front-requires
+    refused-requires
+    same-length
+    same-length-2
+    returns
+    place-of-requires
+    shared-slice-read-owner
+    lowest-empty-requires
+    slice-read-delete-refusal
+    mul-delete-refusal
+    shared-slice-read-delete-refusal
+    delete-refusal-requires
+    refused-requires-2
+    same-length-3
+    same-length-4
+    returns-2
+    slice-write-receive
+    write-slot-requires
+    cast-accepted
+    accepted-requires
+    same-length-5
+    same-length-6
+    returns-3)

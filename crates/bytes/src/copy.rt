@@ -1,0 +1,48 @@
+// Make copy (Document 01, The calls).
+use crate::front::front;
+use model::Answer;
+use model::Posted;
+use rules::answer::accepted;
+use rules::answer::refused;
+use rules::refusal::copy_refusal;
+use slots::lowest::lowest_empty;
+use slots::slot::write_slot;
+use tables::place::place_of;
+ghost use mathlib.Core.Path.{_≡_};
+ghost use Rattle.model.specs.Tables.{lent};
+ghost use Rattle.model.specs.Calls.{makeCopy};
+ghost use Rattle.model.specs.Flat.{flat};
+
+// The sender's counter rises by 1; COPY(from, to) goes to the lowest empty slot; the value is that slot.
+pub fn make_copy(
+    s: u8,
+    owners: &[u8],
+    send: &mut [u16],
+    receive: &[u8],
+    pool: &mut [u8],
+    from: u8,
+    to: u8,
+    pointer: u8,
+) -> Answer
+    ensures { λ r. ⌜ record { answer = r; desk = lent s (now (owners .entry)) (now (send .exit)) (now (receive .entry)) (now (pool .exit)) }
+        ≡ makeCopy flat (lent s (now (owners .entry)) (now (send .entry)) (now (receive .entry)) (now (pool .entry))) from to pointer ⌝ }
+{
+    let p = pointer as usize;
+    let named = (from < s) & (to < s) & (p < owners.len());
+    let n = front(s, owners, &send[..], receive, &pool[..], named);
+    if n != 0 {
+        return refused(n);
+    }
+    let at = place_of(owners.len(), from, pointer);
+    let counter = send[at];
+    let slot = lowest_empty(&pool[..]);
+    let slots = pool.len() / 5;
+    let k = copy_refusal(from, to, owners[p], receive[at], counter, slot, slots);
+    if k != 0 {
+        return refused(k);
+    }
+    let message = Posted::Copy { from, to, pointer };
+    send[at] = counter + 1;
+    write_slot(pool, slot, message);
+    accepted(slot as u16, message)
+}

@@ -1,0 +1,51 @@
+// Delete (Document 01, The calls).
+use crate::front::front;
+use model::Answer;
+use model::Posted;
+use rules::answer::accepted;
+use rules::answer::refused;
+use rules::refusal::delete_refusal;
+use slots::lowest::lowest_empty;
+use slots::slot::write_slot;
+use tables::place::place_of;
+ghost use mathlib.Core.Path.{_≡_};
+ghost use Rattle.model.specs.Tables.{lent};
+ghost use Rattle.model.specs.Calls.{delete as deleteOf};
+ghost use Rattle.model.specs.Flat.{flat};
+
+// The receive cell becomes 0; DEC(site, owner) goes to the lowest empty slot; the value is that slot.
+pub fn delete(
+    s: u8,
+    owners: &[u8],
+    send: &[u16],
+    receive: &mut [u8],
+    pool: &mut [u8],
+    site: u8,
+    pointer: u8,
+) -> Answer
+    ensures { λ r. ⌜ record { answer = r; desk = lent s (now (owners .entry)) (now (send .entry)) (now (receive .exit)) (now (pool .exit)) }
+        ≡ deleteOf flat (lent s (now (owners .entry)) (now (send .entry)) (now (receive .entry)) (now (pool .entry))) site pointer ⌝ }
+{
+    let p = pointer as usize;
+    let named = (site < s) & (p < owners.len());
+    let n = front(s, owners, send, &receive[..], &pool[..], named);
+    if n != 0 {
+        return refused(n);
+    }
+    let at = place_of(owners.len(), site, pointer);
+    let owner = owners[p];
+    let slot = lowest_empty(&pool[..]);
+    let slots = pool.len() / 5;
+    let k = delete_refusal(site, owner, receive[at], send[at], slot, slots);
+    if k != 0 {
+        return refused(k);
+    }
+    let message = Posted::Dec {
+        from: site,
+        to: owner,
+        pointer,
+    };
+    receive[at] = 0;
+    write_slot(pool, slot, message);
+    accepted(slot as u16, message)
+}

@@ -1,0 +1,25 @@
+// The numbers 1 and 2 of what is lent (Document 01, Why a call is turned down).
+use scan::bytes::all_below;
+use scan::bytes::all_bits;
+use scan::word::all_slots_good;
+use tables::shape::shape_good;
+ghost use mathlib.Core.Path.{_≡_};
+ghost use Rattle.model.specs.Tables.{lent};
+ghost use Rattle.model.specs.Calls.{lentRefusal};
+ghost use Rattle.model.specs.Flat.{flat};
+
+// 1, 2 of all that is lent: the tests that begin every call.
+pub fn lent_refusal(s: u8, owners: &[u8], send: &[u16], receive: &[u8], pool: &[u8]) -> u8
+    ensures { λ r. ⌜ r ≡ lentRefusal flat (lent s (now (owners .entry)) (now (send .entry)) (now (receive .entry)) (now (pool .entry))) ⌝ }
+{
+    if !shape_good(s, owners.len(), send.len(), receive.len(), pool.len()) {
+        return 1;
+    }
+    if !(all_below(owners, s) & all_bits(receive)) {
+        return 2;
+    }
+    if all_slots_good(s, owners.len(), pool) {
+        return 0;
+    }
+    2
+}

@@ -1,0 +1,46 @@
+// The lowest empty slot (Document 01, The calls).
+ghost use mathlib.Core.Path.{_≡_};
+ghost use Prim.Native.Nat.{_-_, _≤_};
+ghost use Rattle.model.specs.Questions.{lowestFrom, lowest};
+ghost use Rattle.model.specs.Tables.{slotsOf, emptyAt};
+
+// The lowest empty slot from a place on, where none before it is empty, one by one.
+fn lowest_from(pool: &[u8], from: usize) -> usize
+    requires { ⌜ (from ≤ slotsOf 5 (now pool)) × (lowestFrom from (slotsOf 5 (now pool) - from) (emptyAt 5 (now pool)) ≡ lowest (slotsOf 5 (now pool)) (emptyAt 5 (now pool))) ⌝ }
+    ensures { λ r. ⌜ r ≡ lowest (slotsOf 5 (now (pool .entry))) (emptyAt 5 (now (pool .entry))) ⌝ }
+{
+    let n = pool.len() / 5;
+    let mut i = from;
+    while i < n {
+        if pool[i * 5] == 0 {
+            return i;
+        }
+        i += 1;
+    }
+    i
+}
+
+// The lowest empty slot; the slot count where no slot is empty; four slots a turn.
+pub fn lowest_empty(pool: &[u8]) -> usize
+    ensures { λ r. ⌜ r ≡ lowest (slotsOf 5 (now (pool .entry))) (emptyAt 5 (now (pool .entry))) ⌝ }
+{
+    let turns = pool.len() / 20;
+    let mut t = 0;
+    while t < turns {
+        let i = t * 4;
+        if pool[i * 5] == 0 {
+            return i;
+        }
+        if pool[(i + 1) * 5] == 0 {
+            return i + 1;
+        }
+        if pool[(i + 2) * 5] == 0 {
+            return i + 2;
+        }
+        if pool[(i + 3) * 5] == 0 {
+            return i + 3;
+        }
+        t += 1;
+    }
+    lowest_from(pool, turns * 4)
+}
