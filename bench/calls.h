@@ -1,10 +1,10 @@
 /* The calls of a C desk, in document 01's words and order: the same for both. A desk defines NAME, INLINE and the six functions that are declared here. */
 #include "lent.h"
 
-/* 1, 2, 3. */
-INLINE unsigned front(const lent *d, int named);
+/* 1, 2, 3. How many slots are empty goes to `empty` where that is not null and the number is 0. */
+INLINE unsigned front(const lent *d, int named, size_t *empty);
 
-/* The lowest empty slot; the slot count where there is none. */
+/* The lowest empty slot, where there is one. */
 INLINE size_t lowest_empty(const lent *d);
 
 /* Whether some slot holds an INC_DEC from a to b for the pointer. */
@@ -26,16 +26,16 @@ INLINE void enter(const lent *d, unsigned pointer, uint32_t *sheet);
 
 desk_answer NAME(make_copy)(PARTS(uint16_t, const uint8_t, uint8_t), uint8_t from, uint8_t to, uint8_t pointer) {
     const lent d = LENT;
-    unsigned n = front(&d, (from < sites) & (to < sites) & (pointer < owners_len));
+    size_t empty;
+    unsigned n = front(&d, (from < sites) & (to < sites) & (pointer < owners_len), &empty);
     if (n) return refused(n);
     size_t at = place(&d, from, pointer);
     if (from == to) return refused(SAME_SITE);
     if ((from != owners[pointer]) & !receive[at]) return refused(NOT_HELD);
     if (send[at] == 65535) return refused(COUNTER_FULL);
-    size_t slot = lowest_empty(&d);
-    if (slot == d.slots) return refused(POOL_FULL);
+    if (!empty) return refused(POOL_FULL);
     send[at]++;
-    return post(&d, slot, COPY, from, to, 0, pointer);
+    return telling(empty, post(&d, lowest_empty(&d), COPY, from, to, 0, pointer));
 }
 
 INLINE desk_answer receive_copy(const lent *d, size_t slot, unsigned a, unsigned b, unsigned pointer) {
@@ -50,7 +50,7 @@ INLINE desk_answer receive_copy(const lent *d, size_t slot, unsigned a, unsigned
 
 desk_answer NAME(receive)(PARTS(uint16_t, uint8_t, uint8_t), uint16_t slot) {
     const lent d = LENT;
-    unsigned n = front(&d, slot < d.slots);
+    unsigned n = front(&d, slot < d.slots, NULL);
     if (n) return refused(n);
     const uint8_t *m = pool + slot * SLOT;
     unsigned kind = m[0], a = m[1], b = m[2], third = m[3], pointer = m[4];
@@ -70,22 +70,22 @@ desk_answer NAME(receive)(PARTS(uint16_t, uint8_t, uint8_t), uint16_t slot) {
 
 desk_answer NAME(delete)(PARTS(const uint16_t, uint8_t, uint8_t), uint8_t site, uint8_t pointer) {
     const lent d = LENT;
-    unsigned n = front(&d, (site < sites) & (pointer < owners_len));
+    size_t empty;
+    unsigned n = front(&d, (site < sites) & (pointer < owners_len), &empty);
     if (n) return refused(n);
     size_t at = place(&d, site, pointer);
     unsigned owner = owners[pointer];
     if (site == owner) return refused(IS_OWNER);
     if (!receive[at]) return refused(NOT_HELD);
     if (send[at]) return refused(STILL_COUNTED);
-    size_t slot = lowest_empty(&d);
-    if (slot == d.slots) return refused(POOL_FULL);
+    if (!empty) return refused(POOL_FULL);
     receive[at] = 0;
-    return post(&d, slot, DEC, site, owner, 0, pointer);
+    return telling(empty, post(&d, lowest_empty(&d), DEC, site, owner, 0, pointer));
 }
 
 desk_answer NAME(ask)(PARTS(const uint16_t, const uint8_t, const uint8_t), uint8_t site, uint8_t pointer) {
     const lent d = LENT;
-    unsigned n = front(&d, (site < sites) & (pointer < owners_len));
+    unsigned n = front(&d, (site < sites) & (pointer < owners_len), NULL);
     if (n) return refused(n);
     if (site != owners[pointer]) return refused(NOT_OWNER);
     return accepted(send[place(&d, site, pointer)] == 0);
@@ -93,7 +93,7 @@ desk_answer NAME(ask)(PARTS(const uint16_t, const uint8_t, const uint8_t), uint8
 
 desk_share_answer NAME(share)(PARTS(const uint16_t, const uint8_t, const uint8_t), uint8_t site, uint8_t pointer) {
     const lent d = LENT;
-    unsigned n = front(&d, (site < sites) & (pointer < owners_len));
+    unsigned n = front(&d, (site < sites) & (pointer < owners_len), NULL);
     if (n) return (desk_share_answer){(uint8_t)n, 0};
     unsigned owner = owners[pointer];
     if (site == owner) return (desk_share_answer){IS_OWNER, 0};
@@ -103,7 +103,7 @@ desk_share_answer NAME(share)(PARTS(const uint16_t, const uint8_t, const uint8_t
 uint8_t NAME(sheet)(PARTS(const uint16_t, const uint8_t, const uint8_t), uint8_t pointer, uint32_t *sheet, size_t sheet_len) {
     const lent d = LENT;
     if (sheet_len != SHEET) return BAD_SHAPE;
-    unsigned n = front(&d, pointer < owners_len);
+    unsigned n = front(&d, pointer < owners_len, NULL);
     __builtin_memset(sheet, 0, SHEET * sizeof *sheet);
     if (!n) enter(&d, pointer, sheet);
     return (uint8_t)n;

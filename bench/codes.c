@@ -31,12 +31,12 @@ static const volatile code TABLE[CODES] = {
 uint32_t sheet[SHEET] __attribute__((aligned(64)));
 
 static answer of_call(desk_answer a) {
-    answer r = {a.number, a.value, {0}, 0};
+    answer r = {a.number, a.value, a.empty, {0}, 0};
     __builtin_memcpy(r.message, a.message, SLOT);
     return r;
 }
 
-static answer of_share(desk_share_answer a) { return (answer){a.number, 0, {0}, a.share}; }
+static answer of_share(desk_share_answer a) { return (answer){a.number, 0, 0, {0}, a.share}; }
 
 #define GIVEN t->sites, d->owners, t->pointers, d->send, t->send_len, d->receive, t->receive_len, d->pool, t->pool_len
 
@@ -51,6 +51,6 @@ answer made(int which, sample *s) {
     case DELETE: return of_call(c->delete(GIVEN, q.a, q.pointer));
     case ASK: return of_call(c->ask(GIVEN, q.a, q.pointer));
     case SHARE: return of_share(c->share(GIVEN, q.a, q.pointer));
-    default: return (answer){c->sheet(GIVEN, q.pointer, sheet, t->sheet_len), 0, {0}, 0};
+    default: return (answer){c->sheet(GIVEN, q.pointer, sheet, t->sheet_len), 0, 0, {0}, 0};
     }
 }

@@ -36,7 +36,7 @@ static void keep(const sample *s, uint8_t *to) {
 }
 
 static int same_answer(answer a, answer b) {
-    return a.number == b.number && a.value == b.value && a.share == b.share && !memcmp(a.message, b.message, SLOT);
+    return a.number == b.number && a.value == b.value && a.empty == b.empty && a.share == b.share && !memcmp(a.message, b.message, SLOT);
 }
 
 /* The number that all three give, with the same answer and the same memory after. */

@@ -33,8 +33,14 @@ static inline int bad_shape(const lent *d) {
 /* The place of a cell. */
 static inline size_t place(const lent *d, size_t site, size_t pointer) { return site * d->pointers + pointer; }
 
-static inline desk_answer refused(unsigned number) { return (desk_answer){(uint8_t)number, 0, {0, 0, 0, 0, 0}}; }
+static inline desk_answer refused(unsigned number) { return (desk_answer){(uint8_t)number, 0, 0, {0, 0, 0, 0, 0}}; }
 
-static inline desk_answer accepted(size_t value) { return (desk_answer){0, (uint16_t)value, {0, 0, 0, 0, 0}}; }
+static inline desk_answer accepted(size_t value) { return (desk_answer){0, (uint16_t)value, 0, {0, 0, 0, 0, 0}}; }
+
+/* An answer that hands the count of empty slots on (document 02, One). */
+static inline desk_answer telling(size_t empty, desk_answer a) {
+    a.empty = (uint16_t)empty;
+    return a;
+}
 
 #endif

@@ -24,15 +24,23 @@ static int bad_table(const lent *d) {
     return 0;
 }
 
-static unsigned front(const lent *d, int named) {
+static size_t empty_slots(const lent *d) {
+    size_t count = 0;
+    for (size_t slot = 0; slot < d->slots; slot++) count += d->pool[slot * SLOT] == EMPTY;
+    return count;
+}
+
+static unsigned front(const lent *d, int named, size_t *empty) {
     if (bad_shape(d)) return BAD_SHAPE;
     if (bad_table(d)) return BAD_TABLE;
-    return named ? 0 : BAD_NAME;
+    if (!named) return BAD_NAME;
+    if (empty) *empty = empty_slots(d);
+    return 0;
 }
 
 static size_t lowest_empty(const lent *d) {
     size_t slot = 0;
-    while (slot < d->slots && d->pool[slot * SLOT] != EMPTY) slot++;
+    while (d->pool[slot * SLOT] != EMPTY) slot++;
     return slot;
 }
 
@@ -45,7 +53,7 @@ static int held(const lent *d, unsigned a, unsigned b, unsigned pointer) {
 }
 
 static desk_answer post(const lent *d, size_t slot, unsigned kind, unsigned from, unsigned to, unsigned third, unsigned pointer) {
-    desk_answer r = {0, (uint16_t)slot, {(uint8_t)kind, (uint8_t)from, (uint8_t)to, (uint8_t)third, (uint8_t)pointer}};
+    desk_answer r = {0, (uint16_t)slot, 0, {(uint8_t)kind, (uint8_t)from, (uint8_t)to, (uint8_t)third, (uint8_t)pointer}};
     for (size_t i = 0; i < SLOT; i++) d->pool[slot * SLOT + i] = r.message[i];
     return r;
 }

@@ -25,31 +25,43 @@ INLINE uint64_t seen_bytes(const uint8_t *b, size_t len, uint64_t room) {
     return seen;
 }
 
-/* A slot's word, and what it becomes with the room of its kind. */
-INLINE uint64_t seen_slot(uint64_t x, const uint64_t *room) { return x | (x + room[x & 3]); }
+/* What a pass over the pool has seen: the or of all, and how many slots were empty. */
+typedef struct {
+    uint64_t seen;
+    size_t empty;
+} pass;
 
-/* Whether every slot is good. The room, by kind: what may be added to each field before it reaches its top bit. */
-INLINE int slots_good(const lent *d) {
-    const uint64_t site = 128 - d->sites, pointer = (uint64_t)(256 - d->pointers) << 32, low = 0xffffffffff;
-    const uint64_t named = pointer + 0x7f000000 + site * 0x10100;
-    const uint64_t room[4] = {0xff7f7f7f00, named, named, pointer + site * 0x1010100};
-    if (!d->slots) return 1;
-    const uint8_t *p = d->pool, *last = p + d->pool_len - SLOT, *stop = p + (d->slots - 1) / 4 * (4 * SLOT);
-    uint64_t seen = seen_slot(load32(last) | (uint64_t)last[4] << 32, room);
-    for (; p != stop; p += 4 * SLOT) {
-        seen |= seen_slot(load64(p) & low, room) | seen_slot(load64(p + SLOT) & low, room);
-        seen |= seen_slot(load64(p + 2 * SLOT) & low, room) | seen_slot(load64(p + 3 * SLOT) & low, room);
-    }
-    _Pragma("nounroll")
-    for (; p != last; p += SLOT) seen |= seen_slot(load64(p) & low, room);
-    return (seen & 0x100808080fc) == 0;
+/* A slot's word, and what it becomes with the room of its kind; where it is counted, what its kind adds to the count. */
+INLINE void see_slot(pass *so_far, uint64_t x, const uint64_t *room, int counted) {
+    so_far->seen |= x | (x + room[x & 3]);
+    if (counted) so_far->empty += room[4 + (x & 3)];
 }
 
-INLINE unsigned front(const lent *d, int named) {
+/* Whether every slot is good; where asked, how many are empty. By kind: the room, what may be added to each field before it reaches its top
+   bit; then what the kind adds to the count. Counting costs one instruction a slot here, and a pass of its own costs two and a half. */
+INLINE int slots_good(const lent *d, size_t *empty) {
+    const uint64_t site = 128 - d->sites, pointer = (uint64_t)(256 - d->pointers) << 32, low = 0xffffffffff;
+    const uint64_t named = pointer + 0x7f000000 + site * 0x10100;
+    const uint64_t room[8] = {0xff7f7f7f00, named, named, pointer + site * 0x1010100, 1, 0, 0, 0};
+    pass so_far = {0, 0};
+    if (empty) *empty = 0;
+    if (!d->slots) return 1;
+    const uint8_t *p = d->pool, *last = p + d->pool_len - SLOT, *stop = p + (d->slots - 1) / 4 * (4 * SLOT);
+    see_slot(&so_far, load32(last) | (uint64_t)last[4] << 32, room, !!empty);
+    for (; p != stop; p += 4 * SLOT) {
+        for (int i = 0; i < 4; i++) see_slot(&so_far, load64(p + i * SLOT) & low, room, !!empty);
+    }
+    _Pragma("nounroll")
+    for (; p != last; p += SLOT) see_slot(&so_far, load64(p) & low, room, !!empty);
+    if (empty) *empty = so_far.empty;
+    return (so_far.seen & 0x100808080fc) == 0;
+}
+
+INLINE unsigned front(const lent *d, int named, size_t *empty) {
     if (bad_shape(d)) return BAD_SHAPE;
     uint64_t seen = seen_bytes(d->owners, d->pointers, EVERY(128 - d->sites)) & EVERY(0x80);
     seen |= seen_bytes(d->receive, d->receive_len, 0) & EVERY(0xfe);
-    if (seen || !slots_good(d)) return BAD_TABLE;
+    if (seen || !slots_good(d, empty)) return BAD_TABLE;
     return named ? 0 : BAD_NAME;
 }
 
@@ -79,7 +91,7 @@ INLINE int held(const lent *d, unsigned a, unsigned b, unsigned pointer) {
 INLINE desk_answer post(const lent *d, size_t slot, unsigned kind, unsigned from, unsigned to, unsigned third, unsigned pointer) {
     const uint32_t word = route(kind, from, to) | third << 24;
     uint8_t *at = d->pool + slot * SLOT;
-    desk_answer r = {0, (uint16_t)slot, {0, 0, 0, 0, (uint8_t)pointer}};
+    desk_answer r = {0, (uint16_t)slot, 0, {0, 0, 0, 0, (uint8_t)pointer}};
     __builtin_memcpy(r.message, &word, 4);
     __builtin_memcpy(at, &word, 4);
     at[4] = (uint8_t)pointer;

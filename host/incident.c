@@ -21,20 +21,20 @@ typedef struct {
     const char *words;
 } needed;
 
-static const needed opened = {{0, 0, {0}}, "accepted"};
-static const needed at_slot_0 = {{0, 0, {0}}, "accepted"};
-static const needed at_slot_1 = {{0, 1, {0}}, "accepted"};
-static const needed copy_to_1 = {{0, 0, {1, 0, 1, 0, NET}}, "accepted: COPY from 0 to 1 in slot 0"};
-static const needed copy_to_2 = {{0, 1, {1, 0, 2, 0, NET}}, "accepted: COPY from 0 to 2 in slot 1"};
-static const needed dec_of_2 = {{0, 1, {2, 2, 0, 0, NET}}, "accepted: DEC from 2 to 0 in slot 1"};
-static const needed dec_of_1 = {{0, 0, {2, 1, 0, 0, NET}}, "accepted: DEC from 1 to 0 in slot 0"};
-static const needed not_held = {{DESK_NOT_HELD, 0, {0}}, "refused: 5, NotHeld"};
-static const needed no = {{0, 0, {0}}, "0: no"};
-static const needed yes = {{0, 1, {0}}, "1: yes"};
+static const needed opened = {{0, 0, 0, {0}}, "accepted"};
+static const needed at_slot_0 = {{0, 0, 0, {0}}, "accepted"};
+static const needed at_slot_1 = {{0, 1, 0, {0}}, "accepted"};
+static const needed copy_to_1 = {{0, 0, 4, {1, 0, 1, 0, NET}}, "accepted: COPY from 0 to 1 in slot 0"};
+static const needed copy_to_2 = {{0, 1, 3, {1, 0, 2, 0, NET}}, "accepted: COPY from 0 to 2 in slot 1"};
+static const needed dec_of_2 = {{0, 1, 3, {2, 2, 0, 0, NET}}, "accepted: DEC from 2 to 0 in slot 1"};
+static const needed dec_of_1 = {{0, 0, 4, {2, 1, 0, 0, NET}}, "accepted: DEC from 1 to 0 in slot 0"};
+static const needed not_held = {{DESK_NOT_HELD, 0, 0, {0}}, "refused: 5, NotHeld"};
+static const needed no = {{0, 0, 0, {0}}, "0: no"};
+static const needed yes = {{0, 1, 0, {0}}, "1: yes"};
 
 /* One line of the story; another answer than the needed one ends it. */
 static void tell(const char *what, desk_answer a, needed n) {
-    int same = a.number == n.answer.number && a.value == n.answer.value &&
+    int same = a.number == n.answer.number && a.value == n.answer.value && a.empty == n.answer.empty &&
                !memcmp(a.message, n.answer.message, sizeof a.message);
     printf("%-44s %s\n", what, same ? n.words : "NOT WHAT THE STORY NEEDS");
     if (!same) exit(1);

@@ -45,10 +45,14 @@ enum { DESK_SLOT_BYTES = 5, DESK_SHEET_COUNTS = 192 };
 /* Lines: the bytes of a call, the characters of its line with the newline, the output of a run. */
 enum { DESK_CALL_BYTES = 4, DESK_LINE_CHARACTERS = 9, DESK_RUN_ROOM = 139264 };
 
-/* The calls: a refusal number (0: accepted), a value, and the posted message as slot bytes (all 0: none). */
+/*
+ * The calls: a refusal number (0: accepted), a value, the empty slots and the posted message as slot bytes (all 0: none).
+ * An accepted make copy or delete tells how many slots were empty before its post, so at least 1; 0 means not told.
+ */
 typedef struct {
     uint8_t number;
     uint16_t value;
+    uint16_t empty;
     uint8_t message[DESK_SLOT_BYTES];
 } desk_answer;
 

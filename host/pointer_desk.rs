@@ -1,6 +1,8 @@
 // The desk for Rust: pointer_desk.h, declared and wrapped. Slices in, enums out; the desk keeps nothing.
 // A host says `#[allow(dead_code)] mod pointer_desk;`, since few hosts make every call.
 
+use std::num::NonZeroU16;
+
 // Why a call is turned down: the names and numbers, said once. A number that is not listed keeps its number.
 macro_rules! refusals {
     ($($name:ident = $number:literal,)*) => {
@@ -63,10 +65,11 @@ pub enum Message {
     IncDec { from: u8, to: u8, third: u8, pointer: u8 },
 }
 
-// An accepted call: its value, and the message that it posted.
+// An accepted call: its value, the message that it posted, and how many slots were empty before: make copy and delete tell it.
 #[derive(Clone, Copy, Debug, PartialEq, Eq)]
 pub struct Accepted {
     pub value: u16,
+    pub empty: Option<NonZeroU16>,
     pub message: Option<Message>,
 }
 
@@ -109,6 +112,7 @@ pub struct Book<'a> {
 struct CAnswer {
     number: u8,
     value: u16,
+    empty: u16,
     message: [u8; 5],
 }
 
@@ -243,7 +247,11 @@ fn unless_refused<T>(number: u8, asked: impl FnOnce() -> T) -> Result<T, Refusal
 }
 
 fn answer(a: CAnswer) -> Answer {
-    unless_refused(a.number, || Accepted { value: a.value, message: Message::of(a.message) })
+    unless_refused(a.number, || Accepted {
+        value: a.value,
+        empty: NonZeroU16::new(a.empty),
+        message: Message::of(a.message),
+    })
 }
 
 impl Lent<'_> {

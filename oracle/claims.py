@@ -112,7 +112,7 @@ def check_demand_three(desk, pointer, messages, tally):
     owner = desk.owner_of[pointer]
     alone = held_by(desk, pointer) == [owner] and not messages
     tally.claim("demand 3", (desk.count(owner, pointer) == 0) == alone, "pointer", pointer)
-    tally.claim("ask", machine.ask(desk, owner, pointer) == (0, int(alone), None), "pointer", pointer)
+    tally.claim("ask", machine.ask(desk, owner, pointer) == (0, int(alone), None, 0), "pointer", pointer)
 
 
 def check_desk(desk, tally):
@@ -205,6 +205,15 @@ def check_same_state(desk, twin, tally):
     tally.claim("paper's send table", counts == {k: v for k, v in twin.send_t.items() if v})
 
 
+def check_empty_told(empty, desk, call, answer, tally):
+    """An accepted make copy or delete tells the empty slots before it, which are then one fewer; nothing else does."""
+    if isinstance(call, (MakeCopy, Delete)) and answer.number == 0:
+        left = sum(held is None for held in desk.slots)
+        tally.claim("empty slots told", answer.empty == empty == left + 1, call, answer)
+    else:
+        tally.claim("empty slots not told", answer.empty == 0, call, answer)
+
+
 class CheckedRun:
     """A desk from an opening, the paper's machine beside it, and every claim after every call."""
 
@@ -219,7 +228,9 @@ class CheckedRun:
         if isinstance(call, Receive) and call.slot < len(self.desk.slots):
             before = self.desk.slots[call.slot]
         self.calls.append(call)
+        empty = sum(held is None for held in self.desk.slots)
         answer = answer_to(self.desk, call)
+        check_empty_told(empty, self.desk, call, answer, self.tally)
         check_against_paper(self.desk, self.twin, call, before, answer, self.tally)
         check_same_state(self.desk, self.twin, self.tally)
         check_desk(self.desk, self.tally)

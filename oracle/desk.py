@@ -13,8 +13,8 @@ SHEET_COLUMNS = 64
 
 # The five bytes of a slot, in the document's order.
 Message = namedtuple("Message", "kind sender receiver third pointer")
-# A message of None is "none" in the document's words.
-Answer = namedtuple("Answer", "number value message")
+# A message of None is "none" in the document's words; `empty` is told by an accepted make copy or delete alone.
+Answer = namedtuple("Answer", "number value message empty", defaults=(0,))
 ShareAnswer = namedtuple("ShareAnswer", "number share")
 SheetAnswer = namedtuple("SheetAnswer", "number rows")
 
@@ -54,6 +54,10 @@ class Desk:
     def is_full(self):
         return None not in self.slots
 
+    def empty_slots(self):
+        """How many slots are empty (document 02, One)."""
+        return sum(message is None for message in self.slots)
+
     def post(self, message):
         """Put a message into the lowest empty slot and name that slot."""
         slot = self.slots.index(None)
@@ -64,6 +68,12 @@ class Desk:
 def refused(number):
     """Each refusal returns its number, value 0 and no message."""
     return Answer(number, 0, None)
+
+
+def posted_answer(desk, message):
+    """Posts a message; tells its slot, and how many slots were empty before it."""
+    empty = desk.empty_slots()
+    return Answer(ACCEPTED, desk.post(message), message, empty)
 
 
 def open_desk(sites, owners, slot_count):
@@ -91,8 +101,7 @@ def make_copy(desk, sender, receiver, pointer):
     if number:
         return refused(number)
     desk.change_count(sender, pointer, +1)
-    message = Message(COPY, sender, receiver, 0, pointer)
-    return Answer(ACCEPTED, desk.post(message), message)
+    return posted_answer(desk, Message(COPY, sender, receiver, 0, pointer))
 
 
 # Receive: 3, 8, then COPY 4, DEC 9 and 10, INC_DEC 6.
@@ -192,8 +201,7 @@ def delete(desk, site, pointer):
     if number:
         return refused(number)
     desk.holders.remove((site, pointer))
-    message = Message(DEC, site, desk.owner_of[pointer], 0, pointer)
-    return Answer(ACCEPTED, desk.post(message), message)
+    return posted_answer(desk, Message(DEC, site, desk.owner_of[pointer], 0, pointer))
 
 
 # Ask: 3, then 13.

@@ -1,7 +1,8 @@
 """Every state that a small desk can reach, slots taken as a bag, with every claim checked there."""
 
 import desk as machine
-from claims import ClaimFails, can_be_received, check_desk, check_never_met, receives_left
+from claims import (
+    ClaimFails, can_be_received, check_desk, check_empty_told, check_never_met, receives_left)
 from lines import Delete, MakeCopy, Receive, line_of_call
 from program import answer_to
 from random_runs import opening_digits
@@ -55,6 +56,7 @@ def steps_from(desk, tally):
     for call in all_calls(desk):
         after = twin_of(desk)
         answer = answer_to(after, call)
+        check_empty_told(desk.slots.count(None), after, call, answer, tally)
         if isinstance(call, Receive) and answer.number == 0:
             tally.claim("pool empties in time", receives_left(after) < receives_left(desk), call)
         yield call, after

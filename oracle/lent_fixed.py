@@ -205,7 +205,23 @@ def books():
     return calls + [("search", odd, (0, name)) for name in names + [b"\0", b"%61", b"B", b"A\0BC"]]
 
 
+def empty_slots():
+    """What is told of the empty slots: one, none, all of 1,024, and some in any order."""
+    dec = (DEC, 1, 0, 0, 0)
+    def pool(*full):
+        slots = [dec if number in full else NO_SLOT for number in range(6)]
+        return tables_of(2, [0], {(0, 0): 2}, [(1, 0)], slots)
+    lents = [tables_of(2, [0], holders=[(1, 0)], slots=slots) for slots in (
+        [], [NO_SLOT], [dec], [NO_SLOT] * 1024, [dec] * 1024, [dec] + [NO_SLOT] * 1023,
+        [NO_SLOT] * 1023 + [dec], [dec] * 1023 + [NO_SLOT], [NO_SLOT] * 256, [dec] + [NO_SLOT] * 256)]
+    lents += [pool(), pool(0), pool(5), pool(0, 1, 2), pool(3, 4, 5), pool(0, 2, 4), pool(1, 3, 5),
+              pool(1, 2, 3, 4, 5), pool(0, 1, 2, 3, 4), pool(0, 1, 2, 3, 4, 5)]
+    calls = [("copy", (0, 1, 0)), ("copy", (1, 0, 0)), ("delete", (1, 0)), ("delete", (0, 0)),
+             ("copy", (0, 0, 0)), ("ask", (0, 0)), ("receive", (0,)), ("open", ())]
+    return [(name, lent, names) for lent in lents for name, names in calls]
+
+
 def fixed_calls():
     groups = (document_examples, openings, asks, copies, arrivals, deletes, shares_and_sheets,
-              damaged_tables, books, large_tables)
+              damaged_tables, books, large_tables, empty_slots)
     return [LentCall(*call) for group in groups for call in group()]

@@ -106,8 +106,9 @@ def read_question(text):
 
 
 def plain_answer_text(answer):
-    """Number, value and message of an answer."""
-    return "%02X %04X %s" % (answer.number, answer.value, part_text(slot_bytes(answer.message)))
+    """Number, value, empty slots and message of an answer, as C has them."""
+    return "%02X %04X %04X %s" % (answer.number, answer.value, answer.empty,
+                                  part_text(slot_bytes(answer.message)))
 
 
 def after_text(before, after):

@@ -76,6 +76,11 @@ def paper_twin(desk):
     return twin
 
 
+def empty_by_bytes(pool):
+    """The empty slots of a pool, counted over its kind bytes."""
+    return bytes(pool[::tables.SLOT_BYTES]).count(0)
+
+
 def try_lent_call(call, tally):
     """A call over good lent tables, reached or not, against the paper's machine."""
     if call.name not in MACHINE_CALLS or tables.why_no_tables(call.parts):
@@ -86,6 +91,7 @@ def try_lent_call(call, tally):
     answer, after = lent_text.PLAIN_CALLS[call.name](call.parts, *call.arguments)
     claims.check_against_paper(desk, twin, named, before, answer, tally)
     claims.check_same_state(tables.decode(after), twin, tally)
+    claims.check_empty_told(empty_by_bytes(call.parts.pool), tables.decode(after), named, answer, tally)
 
 
 def one_round(seed, number, command, counts, tally):

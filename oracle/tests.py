@@ -22,7 +22,7 @@ from lent_fixed import tables_of
 from lines import Ask, Delete, Ended, MakeCopy, Reader, Receive, Refusal
 from patched import Mutant, load
 
-REDUCED = dict(inputs=3, lent_calls=420, line_calls=3700)
+REDUCED = dict(inputs=3, lent_calls=560, line_calls=3700)
 CLAIM_SEEDS = (1, 2, 3)
 
 
@@ -143,16 +143,33 @@ def test_document_numbers():
     minus_one = tables_of(2, [0], slots=[(INC_DEC, 1, 0, 0, 0)])
     yield "minus 1", tables.lent_share(minus_one, 1, 0)[0] == (0, -1)
     other = tables_of(2, [0], {(1, 0): 1})
-    yield "ask by the owner's counter", tables.lent_ask(other, 0, 0)[0] == (0, 1, None)
+    yield "ask by the owner's counter", tables.lent_ask(other, 0, 0)[0] == (0, 1, None, 0)
     low = tables_of(2, [0], slots=[(INC_DEC, 1, 0, 0, 0)] * 1024)
     high = tables_of(2, [0], holders=[(1, 0)], slots=[(DEC, 1, 0, 0, 0)] * 1024)
     yield "lowest share", share_of(tables.decode(low), 1, 0) == -1024
     yield "highest share", share_of(tables.decode(high), 1, 0) == 1025
     cell_zero = tables.Lent(2, b"\0", (0, 0), b"\0\0", bytes((COPY, 1, 0, 0, 0)))
     answer, after = tables.lent_receive(cell_zero, 0)
-    yield "owner's cell 0", answer == (0, 0, (INC_DEC, 0, 0, 1, 0)) and after.receive == b"\1\0"
+    yield "owner's cell 0", answer == (0, 0, (INC_DEC, 0, 0, 1, 0), 0) and after.receive == b"\1\0"
     opened = tables.encode(open_desk(3, b"\2\0", 2))
     yield "opening", opened == tables.Lent(3, b"\2\0", (0,) * 6, b"\0\1\0\0\1\0", bytes(10))
+
+
+def test_empty_slots():
+    """Document 02, One: what each answer tells of the empty slots."""
+    answers_of = []
+    _, desk = program.open_by_line(b"03000400")
+    for line in case_stories.FOURTEEN_IN.split()[1:]:
+        answers_of.append(program.answer_to(desk, lines.call_of_line(line.encode())))
+    yield "the fourteen lines", [answer.empty for answer in answers_of] == [4, 0, 4, 0, 3, 0, 0, 0, 0, 0, 4, 0, 0]
+    one = tables_of(2, [0], slots=[(0, 0, 0, 0, 0)])
+    answer, after = tables.lent_make_copy(one, 0, 1, 0)
+    yield "one slot", answer == (0, 0, (COPY, 0, 1, 0, 0), 1)
+    yield "once more", tables.lent_make_copy(after, 0, 1, 0)[0] == (7, 0, None, 0)
+    for slots, told in ((1024, 1024), (1023, 1023), (0, 0)):
+        empty = tables_of(2, [0], slots=[(0, 0, 0, 0, 0)] * slots)
+        answer = tables.lent_make_copy(empty, 0, 1, 0)[0]
+        yield "%d slots" % slots, (answer.number, answer.empty) == (0 if slots else 7, told)
 
 
 def test_book():
@@ -161,7 +178,7 @@ def test_book():
     yield "address", book.address(2, b"\0\1", entries, 1) == (0, 4, 1)
     yield "address refused", book.address(2, b"\0\1", entries, 2) == (3, 0, 0)
     yield "18 before 3", book.address(2, b"\0\1", entries + b"\1", 2) == (18, 0, 0)
-    yield "search", book.search(2, b"\1\1", b"\2AB\2AB", 1, b"AB") == (0, 0, None)
+    yield "search", book.search(2, b"\1\1", b"\2AB\2AB", 1, b"AB") == (0, 0, None, 0)
     yield "twins", book.check(2, b"\1\1", b"\2AB\2AB").number == 19
     yield "no twins", book.check(2, b"\1\0", b"\2AB\2AB").number == 0
     yield "not listed", book.search(2, b"\1\1", b"\2AB\2AB", 1, b"").number == 20
@@ -209,7 +226,8 @@ def test_claims_fail():
     for name in ("a DEC goes to the owner at once when a COPY came first from another site",
                  "Held never tested", "a COPY to the owner is nothing", "Held by the third site as sender",
                  "an INC_DEC raises nothing", "share with INC_DECs as plus",
-                 "ask by the cells of the other sites", "a delete does not look at the counter"):
+                 "ask by the cells of the other sites", "a delete does not look at the counter",
+                 "empty slots: counted after the post", "empty slots: told by a receive"):
         yield name, claims_fail_on(name)
 
 

@@ -25,6 +25,7 @@ DELETE_COUNTED = "        (STILL_COUNTED, lambda: desk.count(site, pointer) != 0
 NOT_OWNER = "        (NOT_OWNER, lambda: not desk.owns(site, pointer)),\n"
 DEC_HELD = "        (HELD, lambda: is_held(desk, message)),\n"
 DEC_ZERO = "        (COUNTER_ZERO, lambda: desk.count(message.receiver, message.pointer) == 0),\n"
+TOLD = "    empty = desk.empty_slots()\n"
 ASK_VALUE = "1 if desk.count(site, pointer) == 0 else 0, None)"
 STORE_COUNT = "self.counts[site, pointer] = self.count(site, pointer) + step"
 WRAPPED_COUNT = "self.counts[site, pointer] = (self.count(site, pointer) + step) % 65536"
@@ -166,8 +167,8 @@ def limits():
         mutant("the owner may delete", "desk", IS_OWNER + DELETE_HELD, DELETE_HELD),
         mutant("a delete leaves the cell", "desk", "    desk.holders.remove((site, pointer))\n", ""),
         mutant("a delete sends its DEC to itself", "desk",
-               "    message = Message(DEC, site, desk.owner_of[pointer], 0, pointer)\n",
-               "    message = Message(DEC, site, site, 0, pointer)\n")]
+               "    return posted_answer(desk, Message(DEC, site, desk.owner_of[pointer], 0, pointer))\n",
+               "    return posted_answer(desk, Message(DEC, site, site, 0, pointer))\n")]
 
 
 def asks():
@@ -238,6 +239,53 @@ def sheets():
                "row[column] = 1")]
 
 
+def empty_counts():
+    """Document 02, One: what is told of the empty slots."""
+    def told(wrong, count):
+        return mutant("empty slots: " + wrong, "desk", TOLD, "    empty = %s\n" % count)
+    receive_answer, tells = "return Answer(ACCEPTED, slot, posted)", ", desk.empty_slots())"
+    copy_refused = "        return refused(number)\n    desk.change_count"
+    delete_refused = "        return refused(number)\n    desk.holders.remove"
+    return [
+        mutant("empty slots: counted after the post", "desk",
+               "    return Answer(ACCEPTED, desk.post(message), message, empty)\n",
+               "    return Answer(ACCEPTED, desk.post(message), message, desk.empty_slots())\n"),
+        told("full slots counted", "len(desk.in_flight())"),
+        told("all slots counted", "len(desk.slots)"),
+        told("always 0", "0"),
+        told("counted only up to the lowest empty slot", "1"),
+        told("the lowest empty slot", "desk.slots.index(None)"),
+        told("the slots up to the lowest empty one", "desk.slots.index(None) + 1"),
+        told("the highest empty slot", "max(n for n, held in enumerate(desk.slots) if held is None)"),
+        told("the slots up to the highest empty one",
+             "max(n for n, held in enumerate(desk.slots) if held is None) + 1"),
+        told("the slots above the lowest empty one, it included", "len(desk.slots) - desk.slots.index(None)"),
+        told("counted in one byte", "desk.empty_slots() % 256"),
+        told("counted in ten bits", "desk.empty_slots() % 1024"),
+        told("never above 1,023", "min(desk.empty_slots(), 1023)"),
+        told("told by make copy alone", "desk.empty_slots() if message.kind == COPY else 0"),
+        told("told by delete alone", "desk.empty_slots() if message.kind == DEC else 0"),
+        mutant("empty slots: told by a receive", "desk", receive_answer, receive_answer[:-1] + tells),
+        mutant("empty slots: told by a receive that posts", "desk", receive_answer,
+               receive_answer[:-1] + ", desk.empty_slots() if posted else 0)"),
+        mutant("empty slots: told by an ask", "desk", ASK_VALUE, ASK_VALUE[:-1] + tells),
+        mutant("empty slots: told by an opening", "tables", "    return Answer(ACCEPTED, 0, None), encode(opened)\n",
+               "    return Answer(ACCEPTED, 0, None, opened.empty_slots()), encode(opened)\n"),
+        mutant("empty slots: told by a refused make copy", "desk", copy_refused,
+               copy_refused.replace("refused(number)", "Answer(number, 0, None, desk.empty_slots())")),
+        mutant("empty slots: told by a refused delete", "desk", delete_refused,
+               delete_refused.replace("refused(number)", "Answer(number, 0, None, desk.empty_slots())")),
+        mutant("empty slots: a refusal tells 1", "desk", "    return Answer(number, 0, None)\n",
+               "    return Answer(number, 0, None, 1)\n"),
+        mutant("empty slots: a search tells the pointers found", "book", "Answer(ACCEPTED, min(found), None)",
+               "Answer(ACCEPTED, min(found), None, len(found))"),
+        mutant("empty slots: a check tells the pointers", "book", "    return Answer(number, 0, None)\n",
+               "    return Answer(number, 0, None, 0 if number else len(owners))\n"),
+        mutant("empty slots: the writer tells what is left of the text", "lent_text",
+               "Answer(lines.lent_write(call.arguments, text), 0, None)",
+               "Answer(lines.lent_write(call.arguments, text), 0, None, max(len(text) - 9, 0))")]
+
+
 def all_mutants():
-    groups = (imposters, short_cuts, held, posts, arrivals, limits, asks, swaps, shares, sheets)
+    groups = (imposters, short_cuts, held, posts, arrivals, limits, asks, swaps, shares, sheets, empty_counts)
     return [found for group in groups for found in group()]

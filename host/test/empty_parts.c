@@ -38,10 +38,10 @@ static void expect(const char *what, int right) {
     set_tables();
 }
 
-/* Whether an answer has this number and value and no message. */
+/* Whether an answer has this number and value, tells no empty slots and has no message. */
 static int is(desk_answer a, unsigned number, unsigned value) {
     static const uint8_t none[5] = {0};
-    return a.number == number && a.value == value && !memcmp(a.message, none, 5);
+    return a.number == number && a.value == value && a.empty == 0 && !memcmp(a.message, none, 5);
 }
 
 #define OWNERS owners, 1

@@ -16,7 +16,7 @@ mod module {
     // The lines that layout.c prints.
     pub fn layouts() {
         let (a, s, p, l) = (
-            CAnswer { number: 0, value: 0, message: [0; 5] },
+            CAnswer { number: 0, value: 0, empty: 0, message: [0; 5] },
             CShare { number: 0, share: 0 },
             CPart { number: 0, at: 0, length: 0 },
             CLine { number: 0, ended: 0, call: [0; 4], at: 0 },
@@ -24,6 +24,7 @@ mod module {
         whole::<CAnswer>("answer");
         place("number", &a, &a.number);
         place("value", &a, &a.value);
+        place("empty", &a, &a.empty);
         place("message", &a, &a.message);
         println!();
         whole::<CShare>("share");

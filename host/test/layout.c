@@ -7,7 +7,8 @@
 #define WHOLE(name, type) printf("%s: size %zu align %zu", name, sizeof(type), _Alignof(type))
 
 int main(void) {
-    WHOLE("answer", desk_answer), PLACE(desk_answer, number), PLACE(desk_answer, value), PLACE(desk_answer, message);
+    WHOLE("answer", desk_answer), PLACE(desk_answer, number), PLACE(desk_answer, value), PLACE(desk_answer, empty);
+    PLACE(desk_answer, message);
     putchar('\n');
     WHOLE("share", desk_share_answer), PLACE(desk_share_answer, number), PLACE(desk_share_answer, share);
     putchar('\n');

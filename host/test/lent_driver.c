@@ -116,10 +116,11 @@ static void past_question(void) {
     if (strcmp(word(), ">")) stop("no > behind the question");
 }
 
-/* Whether an answer is the next three words. */
+/* Whether an answer is the next four words. */
 static int is_answer(desk_answer a) {
     int same = a.number == number();
     same &= a.value == number();
+    same &= a.empty == number();
     const char *w = word();
     if (strlen(w) != 10) stop("a message of other than ten digits");
     for (int i = 0; i < 5; i++) same &= a.message[i] == number_at(w + 2 * i, 2);

@@ -14,10 +14,10 @@ static void expect(const char *what, int right) {
     if (!right) printf("FAILED: %s\n", what);
 }
 
-/* Whether an answer has this number, value 0 and no message. */
+/* Whether an answer has this number, value 0, no empty slots told and no message. */
 static int is(desk_answer a, unsigned number) {
     static const uint8_t none[DESK_SLOT_BYTES] = {0};
-    return a.number == number && a.value == 0 && !memcmp(a.message, none, sizeof none);
+    return a.number == number && a.value == 0 && a.empty == 0 && !memcmp(a.message, none, sizeof none);
 }
 
 static int all_marks(const uint8_t *from, size_t n) {

@@ -3,6 +3,8 @@
 #[path = "../pointer_desk.rs"]
 mod pointer_desk;
 
+use std::num::NonZeroU16;
+
 use pointer_desk::Message::{Copy, Dec, IncDec};
 use pointer_desk::{read_line, run, write_line, Accepted, Answer, Book, Lent, Next, Refusal, Sheet, RUN_ROOM};
 
@@ -22,11 +24,16 @@ impl Tally {
 }
 
 fn accepted(value: u16) -> Answer {
-    Ok(Accepted { value, message: None })
+    Ok(Accepted { value, empty: None, message: None })
 }
 
 fn posted(value: u16, message: pointer_desk::Message) -> Answer {
-    Ok(Accepted { value, message: Some(message) })
+    Ok(Accepted { value, empty: None, message: Some(message) })
+}
+
+// An accepted make copy or delete, which tells how many slots were empty.
+fn told(empty: u16, value: u16, message: pointer_desk::Message) -> Answer {
+    Ok(Accepted { value, empty: NonZeroU16::new(empty), message: Some(message) })
 }
 
 // Tables of a host, to lend and to look at.
@@ -68,17 +75,17 @@ fn fourteen(t: &mut Tally) {
     let mut tables = Tables::new(3, &[9, 9, 9], &[[9; 5]; 4]);
     let mut desk = tables.lend();
     t.expect("line 1", desk.open() == accepted(0));
-    t.expect("line 2", desk.make_copy(0, 1, 0) == posted(0, Copy { from: 0, to: 1, pointer: 0 }));
+    t.expect("line 2", desk.make_copy(0, 1, 0) == told(4, 0, Copy { from: 0, to: 1, pointer: 0 }));
     t.expect("line 3", desk.receive(0) == accepted(0));
-    t.expect("line 4", desk.make_copy(1, 2, 0) == posted(0, Copy { from: 1, to: 2, pointer: 0 }));
+    t.expect("line 4", desk.make_copy(1, 2, 0) == told(4, 0, Copy { from: 1, to: 2, pointer: 0 }));
     t.expect("line 5", desk.receive(0) == posted(0, IncDec { from: 2, to: 0, third: 1, pointer: 0 }));
-    t.expect("line 6", desk.delete(2, 0) == posted(1, Dec { from: 2, to: 0, pointer: 0 }));
+    t.expect("line 6", desk.delete(2, 0) == told(3, 1, Dec { from: 2, to: 0, pointer: 0 }));
     t.expect("line 7", desk.receive(1) == Err(Refusal::Held));
     t.expect("line 8", desk.ask(0, 0) == accepted(0));
     t.expect("line 9", desk.receive(0) == posted(0, Dec { from: 0, to: 1, pointer: 0 }));
     t.expect("line 10", desk.receive(1) == accepted(1));
     t.expect("line 11", desk.receive(0) == accepted(0));
-    t.expect("line 12", desk.delete(1, 0) == posted(0, Dec { from: 1, to: 0, pointer: 0 }));
+    t.expect("line 12", desk.delete(1, 0) == told(4, 0, Dec { from: 1, to: 0, pointer: 0 }));
     t.expect("line 13", desk.receive(0) == accepted(0));
     t.expect("line 14", desk.ask(0, 0) == accepted(1));
     t.expect("the tables after", tables == Tables::new(3, &[1, 0, 0], &[[0; 5]; 4]));
@@ -105,6 +112,19 @@ fn refusals(t: &mut Tally) {
     refused(t, "delete at the owner", &good, |d| d.delete(0, 0), Refusal::IsOwner);
     refused(t, "delete while counted", &counted(1, 1), |d| d.delete(1, 0), Refusal::StillCounted);
     refused(t, "ask elsewhere", &good, |d| d.ask(1, 0), Refusal::NotOwner);
+}
+
+// Document 02, One: the count goes down to 1 with the last empty slot, and up to 1,024.
+fn counts(t: &mut Tally) {
+    let copy = Copy { from: 0, to: 1, pointer: 0 };
+    let mut one = Tables::new(2, &[1, 0], &[[0; 5]]);
+    t.expect("the last empty slot", one.lend().make_copy(0, 1, 0) == told(1, 0, copy));
+    t.expect("then none", one.lend().make_copy(0, 1, 0) == Err(Refusal::PoolFull));
+    let mut most = Tables::new(2, &[1, 1], &[[0; 5]; 1024]);
+    t.expect("1,024 empty slots", most.lend().make_copy(0, 1, 0) == told(1024, 0, copy));
+    t.expect("1,023 empty slots", most.lend().delete(1, 0) == told(1023, 1, Dec { from: 1, to: 0, pointer: 0 }));
+    let mut between = Tables::new(2, &[1, 0], &[[1, 0, 1, 0, 0], [0; 5], [1, 0, 1, 0, 0], [0; 5], [1, 0, 1, 0, 0]]);
+    t.expect("empty slots behind the lowest", between.lend().make_copy(0, 1, 0) == told(2, 1, copy));
 }
 
 // Document 01, Share and sheet: its own example, and a message of each kind in the column where it came from.
@@ -197,6 +217,7 @@ fn main() {
     let mut t = Tally { passed: 0, failed: 0 };
     fourteen(&mut t);
     refusals(&mut t);
+    counts(&mut t);
     share_and_sheet(&mut t);
     books(&mut t);
     empty_slices(&mut t);

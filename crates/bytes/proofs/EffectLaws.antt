@@ -9,12 +9,13 @@ use lib.Seq.{sets}
 use mir.Val.{boolByte}
 use borrow.Author.Tests.{eqb-false, leb-false}
 use Rattle.model.specs.declared.Answer.{Answer}
+use Rattle.model.specs.declared.Empties.{Empties}
 use Rattle.model.specs.declared.Posted.the-variants.{Copy, Dec, Nothing}
 use Rattle.model.specs.Refusals.{SameSite, NotHeld, CounterFull, PoolFull, IsOwner, StillCounted, _when_, _orElse_}
 use Rattle.model.specs.Messages.{slotOf}
-use Rattle.model.specs.Answers.{accepted}
+use Rattle.model.specs.Answers.{accepted, acceptedTelling}
 use Rattle.model.specs.Calls.{copyRefusal, deleteRefusal, lowestEmpty, copied, deleted, asked}
-use Rattle.model.specs.Tables.{Desk, lent, place}
+use Rattle.model.specs.Tables.{Desk, lent, place, searched}
 use Rattle.model.specs.Flat.{flat}
 use Rattle.tables.proofs.RowLaws.{test-as-byte}
 use Rattle.model.proofs.TestLaws.{when-not, or-else-none}
@@ -42,23 +43,23 @@ delete-clear site owner cell counter slot slots e =
     let t = four-none (IsOwner when eqb site owner) (NotHeld when eqb cell 0) (StillCounted when not (eqb counter 0)) (PoolFull when leb slots slot) e in
     leb-false slots slot (when-not 6 _ (t .3))
 
--- ---- the desk, of the code's place and slot
-module _ (d : Desk) (s p : ℕ) {at slot : ℕ} (ea : at ≡ place (length (d .owners)) s p) (es : slot ≡ lowestEmpty flat d) where
+-- ---- the desk, of the code's place and what its search found
+module _ (d : Desk) (s p : ℕ) {at : ℕ} {found : Empties} (ea : at ≡ place (length (d .owners)) s p) (ef : found ≡ searched 5 (d .pool)) where
   -- what a test is given
-  pub read-as : (f : ℕ → ℕ → ℕ → ℕ) → f (getD (d .receive) at 0) (getD (d .send) at 0) slot ≡ f (flat .cell d s p) (flat .counter d s p) (lowestEmpty flat d)
-  read-as f = rw (ea, es)
+  pub read-as : (f : ℕ → ℕ → ℕ → ℕ) → f (getD (d .receive) at 0) (getD (d .send) at 0) (found .slot) ≡ f (flat .cell d s p) (flat .counter d s p) (lowestEmpty flat d)
+  read-as f = rw (ea, ef)
 
   -- what a copy leaves
-  pub copied-as : (to : ℕ) {r : Answer} {pool′ : List ℕ} → r ≡ accepted slot (Copy s to p) → pool′ ≡ sets (d .pool) (slot * 5) (slotOf (Copy s to p))
+  pub copied-as : (to : ℕ) {r : Answer} {pool′ : List ℕ} → r ≡ acceptedTelling (found .count) (found .slot) (Copy s to p) → pool′ ≡ sets (d .pool) (found .slot * 5) (slotOf (Copy s to p))
       → record { answer = r; desk = lent (d .S) (d .owners) (set (d .send) at (getD (d .send) at 0 + 1)) (d .receive) pool′ } ≡ copied flat d s to p
   unfolding copied
-  copied-as to er ep = rw (er, ep, ea, es)
+  copied-as to er ep = rw (er, ep, ea, ef)
 
   -- what a delete leaves
-  pub deleted-as : {r : Answer} {pool′ : List ℕ} → r ≡ accepted slot (Dec s (getD (d .owners) p 0) p) → pool′ ≡ sets (d .pool) (slot * 5) (slotOf (Dec s (getD (d .owners) p 0) p))
+  pub deleted-as : {r : Answer} {pool′ : List ℕ} → r ≡ acceptedTelling (found .count) (found .slot) (Dec s (getD (d .owners) p 0) p) → pool′ ≡ sets (d .pool) (found .slot * 5) (slotOf (Dec s (getD (d .owners) p 0) p))
       → record { answer = r; desk = lent (d .S) (d .owners) (d .send) (set (d .receive) at 0) pool′ } ≡ deleted flat d s p
   unfolding deleted
-  deleted-as er ep = rw (er, ep, ea, es)
+  deleted-as er ep = rw (er, ep, ea, ef)
 
 -- a test as a byte is 1 where it holds
 -- what ask answers

@@ -2,7 +2,7 @@
 use crate::front::front;
 use model::Answer;
 use model::Posted;
-use rules::answer::accepted;
+use rules::answer::accepted_telling;
 use rules::answer::refused;
 use rules::refusal::copy_refusal;
 use slots::lowest::lowest_empty;
@@ -13,7 +13,7 @@ ghost use Rattle.model.specs.Tables.{lent};
 ghost use Rattle.model.specs.Calls.{makeCopy};
 ghost use Rattle.model.specs.Flat.{flat};
 
-// The sender's counter rises by 1; COPY(from, to) goes to the lowest empty slot; the value is that slot.
+// The sender's counter rises by 1; COPY(from, to) goes to the lowest empty slot; the value is that slot; how many were empty before is told.
 pub fn make_copy(
     s: u8,
     owners: &[u8],
@@ -35,7 +35,8 @@ pub fn make_copy(
     }
     let at = place_of(owners.len(), from, pointer);
     let counter = send[at];
-    let slot = lowest_empty(&pool[..]);
+    let found = lowest_empty(&pool[..]);
+    let slot = found.slot;
     let slots = pool.len() / 5;
     let k = copy_refusal(from, to, owners[p], receive[at], counter, slot, slots);
     if k != 0 {
@@ -44,5 +45,5 @@ pub fn make_copy(
     let message = Posted::Copy { from, to, pointer };
     send[at] = counter + 1;
     write_slot(pool, slot, message);
-    accepted(slot as u16, message)
+    accepted_telling(found.count as u16, slot as u16, message)
 }

@@ -2,7 +2,7 @@
 use crate::front::front;
 use model::Answer;
 use model::Posted;
-use rules::answer::accepted;
+use rules::answer::accepted_telling;
 use rules::answer::refused;
 use rules::refusal::delete_refusal;
 use slots::lowest::lowest_empty;
@@ -13,7 +13,7 @@ ghost use Rattle.model.specs.Tables.{lent};
 ghost use Rattle.model.specs.Calls.{delete as deleteOf};
 ghost use Rattle.model.specs.Flat.{flat};
 
-// The receive cell becomes 0; DEC(site, owner) goes to the lowest empty slot; the value is that slot.
+// The receive cell becomes 0; DEC(site, owner) goes to the lowest empty slot; the value is that slot; how many were empty before is told.
 pub fn delete(
     s: u8,
     owners: &[u8],
@@ -34,7 +34,8 @@ pub fn delete(
     }
     let at = place_of(owners.len(), site, pointer);
     let owner = owners[p];
-    let slot = lowest_empty(&pool[..]);
+    let found = lowest_empty(&pool[..]);
+    let slot = found.slot;
     let slots = pool.len() / 5;
     let k = delete_refusal(site, owner, receive[at], send[at], slot, slots);
     if k != 0 {
@@ -47,5 +48,5 @@ pub fn delete(
     };
     receive[at] = 0;
     write_slot(pool, slot, message);
-    accepted(slot as u16, message)
+    accepted_telling(found.count as u16, slot as u16, message)
 }

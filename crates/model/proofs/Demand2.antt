@@ -7,9 +7,9 @@ use Rattle.moreau.specs.Transitions.{Guard, PaperGuard}
 use Rattle.model.specs.declared.Posted.the-variants.{Copy, Dec as Decr, Nothing}
 use Rattle.model.specs.declared.Call.the-variants.{MakeCopy, Receive, Delete, Ask}
 use Rattle.model.specs.Refusals.{_when_}
-use Rattle.model.specs.Answers.{accepted, Outcome, unless}
+use Rattle.model.specs.Answers.{accepted, acceptedTelling, Outcome, unless}
 use Rattle.model.specs.Layout.{Layout}
-use Rattle.model.specs.Calls.{heldRefusal, lowestEmpty, copyNumber, copied, makeCopy, replied, receiveNumber, received, receive, deleteNumber, deleted, delete, askNumber, asked, ask, step}
+use Rattle.model.specs.Calls.{heldRefusal, lowestEmpty, emptySlots, copyNumber, copied, makeCopy, replied, receiveNumber, received, receive, deleteNumber, deleted, delete, askNumber, asked, ask, step}
 use Rattle.model.specs.Laws.{Laws}
 use Rattle.model.specs.Meaning.{meaning}
 use Rattle.model.specs.Demands.{MakesCopy, Receives, Deletes}
@@ -52,12 +52,12 @@ answered-as zero d o e = refl
 answered-as (suc n) d o e = absurd (omega arith)
 
 module _ {D : Type 0} (L : Layout D) where
-  -- Make copy and delete: the value is the lowest empty slot, the message is the one that is posted.
-  pub copy-answer : (d : D) (from to p : ℕ) → step L d (MakeCopy from to p) .answer .number ≡ 0 → step L d (MakeCopy from to p) .answer ≡ accepted (lowestEmpty L d) (Copy from to p)
+  -- Make copy and delete: the value is the lowest empty slot, the message is the one that is posted, and the count is of the slots that were empty before.
+  pub copy-answer : (d : D) (from to p : ℕ) → step L d (MakeCopy from to p) .answer .number ≡ 0 → step L d (MakeCopy from to p) .answer ≡ acceptedTelling (emptySlots L d) (lowestEmpty L d) (Copy from to p)
   unfolding step makeCopy copied
   copy-answer d from to p = answered-as (copyNumber L d from to p) d _
 
-  pub delete-answer : (d : D) (site p : ℕ) → step L d (Delete site p) .answer .number ≡ 0 → step L d (Delete site p) .answer ≡ accepted (lowestEmpty L d) (Decr site (L .owner d p) p)
+  pub delete-answer : (d : D) (site p : ℕ) → step L d (Delete site p) .answer .number ≡ 0 → step L d (Delete site p) .answer ≡ acceptedTelling (emptySlots L d) (lowestEmpty L d) (Decr site (L .owner d p) p)
   unfolding step delete deleted
   delete-answer d site p = answered-as (deleteNumber L d site p) d _
 

@@ -27,6 +27,7 @@ pub mod Demand2
 pub mod Placed
 pub mod Converse
 pub mod OpeningLaws
+pub mod EmptySlots
 pub mod QuietLaws
 pub mod ReachedLaws
 pub mod Demand3
@@ -48,5 +49,6 @@ pub mod RefusedLines
 pub mod Openings
 pub mod SurveyCases
 pub mod Edges
+pub mod EmptyCases
 pub mod RawCases
 pub mod OneOutcome

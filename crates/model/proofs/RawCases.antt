@@ -7,9 +7,9 @@ use Rattle.model.specs.declared.Posted.the-variants.{Copy, Dec, IncDec, 
 use Rattle.model.specs.declared.Answer.{Answer}
 use Rattle.model.specs.declared.Call.{Call}
 use Rattle.model.specs.declared.Call.the-variants.{MakeCopy, Receive, Delete, Ask}
-use Rattle.model.specs.Questions.{every, some, lowestFrom}
+use Rattle.model.specs.Questions.{every, some, howMany, lowestFrom}
 use Rattle.model.specs.Messages.{messageOf}
-use Rattle.model.specs.Answers.{accepted, refused, Outcome}
+use Rattle.model.specs.Answers.{accepted, acceptedTelling, refused, Outcome}
 use Rattle.model.specs.Calls.{copyRefusal, deleteRefusal, lentRefusal, front, copyNumber, copied, makeCopy, receiveNumber, received, receive, deleteNumber, deleted, delete, askNumber, asked, ask, step}
 use Rattle.model.specs.Tables.{Desk, lent, allBelow, allSlotsGood}
 use Rattle.model.specs.Flat.{flat}
@@ -32,7 +32,7 @@ pub cases : List Case
 cases =
     case (MakeCopy 2 1 1)
     (desk (3 ∷ 0 ∷ 1 ∷ 5 ∷ 0 ∷ 7 ∷ []) (1 ∷ 0 ∷ 1 ∷ 1 ∷ 0 ∷ 1 ∷ []) (1 ∷ 0 ∷ 2 ∷ 0 ∷ 0 ∷ 0 ∷ 0 ∷ 0 ∷ 0 ∷ 0 ∷ []))
-    (accepted 1 (Copy 2 1 1))
+    (acceptedTelling 1 1 (Copy 2 1 1))
     (desk (3 ∷ 0 ∷ 1 ∷ 5 ∷ 0 ∷ 8 ∷ []) (1 ∷ 0 ∷ 1 ∷ 1 ∷ 0 ∷ 1 ∷ []) (1 ∷ 0 ∷ 2 ∷ 0 ∷ 0 ∷ 1 ∷ 2 ∷ 1 ∷ 0 ∷ 1 ∷ []))
     ∷ case (Receive 0)
     (desk (3 ∷ 0 ∷ 1 ∷ 5 ∷ 0 ∷ 7 ∷ []) (1 ∷ 0 ∷ 1 ∷ 1 ∷ 0 ∷ 1 ∷ []) (1 ∷ 0 ∷ 2 ∷ 0 ∷ 0 ∷ 0 ∷ 0 ∷ 0 ∷ 0 ∷ 0 ∷ []))
@@ -60,7 +60,7 @@ cases =
     (desk (3 ∷ 0 ∷ 1 ∷ 5 ∷ 0 ∷ 7 ∷ []) (1 ∷ 0 ∷ 1 ∷ 1 ∷ 0 ∷ 1 ∷ []) (3 ∷ 1 ∷ 2 ∷ 0 ∷ 1 ∷ 2 ∷ 1 ∷ 2 ∷ 0 ∷ 1 ∷ []))
     ∷ case (Delete 2 0)
     (desk (3 ∷ 0 ∷ 1 ∷ 5 ∷ 0 ∷ 7 ∷ []) (1 ∷ 0 ∷ 0 ∷ 1 ∷ 1 ∷ 1 ∷ []) (1 ∷ 0 ∷ 1 ∷ 0 ∷ 0 ∷ 0 ∷ 0 ∷ 0 ∷ 0 ∷ 0 ∷ []))
-    (accepted 1 (Dec 2 0 0))
+    (acceptedTelling 1 1 (Dec 2 0 0))
     (desk (3 ∷ 0 ∷ 1 ∷ 5 ∷ 0 ∷ 7 ∷ []) (1 ∷ 0 ∷ 0 ∷ 1 ∷ 0 ∷ 1 ∷ []) (1 ∷ 0 ∷ 1 ∷ 0 ∷ 0 ∷ 2 ∷ 2 ∷ 0 ∷ 0 ∷ 0 ∷ []))
     ∷ case (Ask 0 0)
     (desk (3 ∷ 0 ∷ 1 ∷ 5 ∷ 0 ∷ 7 ∷ []) (1 ∷ 0 ∷ 1 ∷ 1 ∷ 0 ∷ 1 ∷ []) [])
@@ -82,7 +82,7 @@ listed [] = []
 listed (c ∷ cs) = record { answer = c .answer; desk = c .after } ∷ listed cs
 
 pub raw-cases : given cases ≡ listed cases
-unfolding cases given listed step front lentRefusal makeCopy copyNumber copyRefusal copied receive receiveNumber received delete deleteNumber deleteRefusal deleted ask askNumber asked allBelow allSlotsGood every some lowestFrom messageOf
+unfolding cases given listed step front lentRefusal makeCopy copyNumber copyRefusal copied receive receiveNumber received delete deleteNumber deleteRefusal deleted ask askNumber asked allBelow allSlotsGood every some howMany lowestFrom messageOf
 raw-cases = refl
 
 -- The counter and the cell of site s and pointer p stand at s x G + p of the send table and of the receive table.

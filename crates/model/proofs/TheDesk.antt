@@ -18,8 +18,8 @@ use Rattle.model.specs.declared.Read.{Read}
 use Rattle.model.specs.declared.Read.the-variants.{Said}
 use Rattle.model.specs.declared.Next.the-variants.{Line}
 use Rattle.model.specs.Refusals.{Held, _when_}
-use Rattle.model.specs.Answers.{accepted, refused}
-use Rattle.model.specs.Calls.{heldRefusal, lowestEmpty, lentRefusal, openDesk, replied, step, counterThere, cellThere}
+use Rattle.model.specs.Answers.{accepted, acceptedTelling, refused}
+use Rattle.model.specs.Calls.{heldRefusal, lowestEmpty, emptySlots, lentRefusal, openDesk, replied, step, counterThere, cellThere}
 use Rattle.model.specs.Messages.{receiver, pointerOf, counterAfter, cellAfter}
 use Rattle.model.specs.Laws.{withSlot, Reads}
 use Rattle.model.specs.Survey.{inFlight, sharePlus, shareMinus, shareOf, sharesOfOthers, share, sheetNumber}
@@ -30,7 +30,7 @@ use Rattle.model.specs.Lines.{digitsOf, bytesOf, lineOf, writeCall, read
 use Rattle.model.specs.Transcript.{answerLine, opening, obeyed, deskBefore, answerLineAt, transcript}
 use Rattle.model.specs.Fields.{FieldsFit}
 use Rattle.model.specs.Meaning.{meant, meaning}
-use Rattle.model.specs.Demands.{FirstOf, _among_, listed, openRows, lentRows, heldRows, rowsOf, TellsEarly, shareRows, sheetRows, LowestEmpty, names, controls, MakesCopy, Receives, Deletes, Reached, Quiet, look}
+use Rattle.model.specs.Demands.{FirstOf, _among_, listed, NoSlotEmpty, Tells, openRows, lentRows, copyRowsWhen, deleteRowsWhen, heldRows, rowsOf, TellsEarly, shareRows, sheetRows, LowestEmpty, names, controls, MakesCopy, Receives, Deletes, Reached, Quiet, look}
 use Rattle.model.specs.LineRows.{lineRows, openingLineRows, AsWritten}
 use Rattle.model.proofs.FlatLaws.{flat-laws}
 use Rattle.model.proofs.InWords as in-words
@@ -42,6 +42,7 @@ use Rattle.model.proofs.Demand1 as demand-1
 use Rattle.model.proofs.Demand2 as demand-2
 use Rattle.model.proofs.Placed as placed
 use Rattle.model.proofs.Converse as converse
+use Rattle.model.proofs.EmptySlots as empty-slots
 use Rattle.model.proofs.RoundTrip as round-trip
 use Rattle.model.proofs.WrittenLine as written-line
 use Rattle.model.proofs.Demand3 as demand-3
@@ -153,13 +154,13 @@ pub opening-means : (d : Desk) → openDesk flat d .answer .number ≡ 0 → mea
 opening-means = opening-laws.opening-means flat flat-laws
 
 -- The answer of an accepted call: its value and its message, on any lent tables.
-pub copy-answer : (d : Desk) (from to p : ℕ) → step flat d (MakeCopy from to p) .answer .number ≡ 0 → step flat d (MakeCopy from to p) .answer ≡ accepted (lowestEmpty flat d) (Copy from to p)
+pub copy-answer : (d : Desk) (from to p : ℕ) → step flat d (MakeCopy from to p) .answer .number ≡ 0 → step flat d (MakeCopy from to p) .answer ≡ acceptedTelling (emptySlots flat d) (lowestEmpty flat d) (Copy from to p)
 copy-answer = demand-2.copy-answer flat
 
 pub receive-answer : (d : Desk) (slot : ℕ) → step flat d (Receive slot) .answer .number ≡ 0 → step flat d (Receive slot) .answer ≡ accepted slot (replied flat d slot)
 receive-answer = demand-2.receive-answer flat
 
-pub delete-answer : (d : Desk) (site p : ℕ) → step flat d (Delete site p) .answer .number ≡ 0 → step flat d (Delete site p) .answer ≡ accepted (lowestEmpty flat d) (Decr site (flat .owner d p) p)
+pub delete-answer : (d : Desk) (site p : ℕ) → step flat d (Delete site p) .answer .number ≡ 0 → step flat d (Delete site p) .answer ≡ acceptedTelling (emptySlots flat d) (lowestEmpty flat d) (Decr site (flat .owner d p) p)
 delete-answer = demand-2.delete-answer flat
 
 pub ask-answer : (d : Desk) (site p : ℕ) → step flat d (Ask site p) .answer .number ≡ 0
@@ -334,3 +335,47 @@ owner-counter-is-shares-of-others r = shares.owner-counter-is-shares-of-others f
 pub counter-is-messages-under-control : {d : Desk} → Reached flat d → (p : ℕ) → p < flat .pointers d → (s : ℕ) → s < d .S → s ≢ flat .owner d p
     → flat .counter d s p ≡ inFlight flat d (controls s p)
 counter-is-messages-under-control r = lemma-4.counter-is-messages-under-control flat flat-laws (stands r)
+
+-- ---- document 02, One: tell us before the pool is full
+-- An accepted make copy or delete tells how many slots are empty in the memory before: at least 1, at most 1,024; after the call there is one less.
+pub copy-tells : (d : Desk) (from to p : ℕ) → step flat d (MakeCopy from to p) .answer .number ≡ 0 → step flat d (MakeCopy from to p) .answer .empty ≡ emptySlots flat d
+copy-tells = empty-slots.copy-tells flat
+
+pub delete-tells : (d : Desk) (site p : ℕ) → step flat d (Delete site p) .answer .number ≡ 0 → step flat d (Delete site p) .answer .empty ≡ emptySlots flat d
+delete-tells = empty-slots.delete-tells flat
+
+pub copy-fills-one : (d : Desk) (from to p : ℕ) → step flat d (MakeCopy from to p) .answer .number ≡ 0 → emptySlots flat (step flat d (MakeCopy from to p) .desk) + 1 ≡ emptySlots flat d
+copy-fills-one = empty-slots.copy-fills-one flat flat-laws
+
+pub delete-fills-one : (d : Desk) (site p : ℕ) → step flat d (Delete site p) .answer .number ≡ 0 → emptySlots flat (step flat d (Delete site p) .desk) + 1 ≡ emptySlots flat d
+delete-fills-one = empty-slots.delete-fills-one flat flat-laws
+
+pub copy-tells-some : (d : Desk) (from to p : ℕ) → step flat d (MakeCopy from to p) .answer .number ≡ 0
+    → (1 ≤ step flat d (MakeCopy from to p) .answer .empty) × (step flat d (MakeCopy from to p) .answer .empty ≤ 1024)
+copy-tells-some = empty-slots.copy-tells-some flat flat-laws
+
+pub delete-tells-some : (d : Desk) (site p : ℕ) → step flat d (Delete site p) .answer .number ≡ 0
+    → (1 ≤ step flat d (Delete site p) .answer .empty) × (step flat d (Delete site p) .answer .empty ≤ 1024)
+delete-tells-some = empty-slots.delete-tells-some flat flat-laws
+
+-- No other answer tells a count: not another call's, not a refusal's, not an opening's.
+pub others-tell-nothing : (d : Desk) (c : Call) → (Tells c → ⊥) → step flat d c .answer .empty ≡ 0
+others-tell-nothing = empty-slots.others-tell-nothing flat
+
+pub refusals-tell-nothing : (d : Desk) (c : Call) → step flat d c .answer .number ≢ 0 → step flat d c .answer .empty ≡ 0
+refusals-tell-nothing = empty-slots.refusals-tell-nothing flat
+
+pub opening-tells-nothing : (d : Desk) → openDesk flat d .answer .empty ≡ 0
+opening-tells-nothing = empty-slots.opening-tells-nothing flat
+
+-- The count is 0 just where no slot is empty; so 7 is given exactly where no earlier reason holds and the count is 0.
+pub full-when-count-zero : (d : Desk) → NoSlotEmpty flat d ↔ (emptySlots flat d ≡ 0)
+full-when-count-zero = empty-slots.full-when-count-zero flat
+
+pub copy-full-when-count-zero : (d : Desk) (from to p : ℕ)
+    → FirstOf (lentRows flat d (copyRowsWhen flat (emptySlots flat d ≡ 0) d from to p)) (step flat d (MakeCopy from to p) .answer .number)
+copy-full-when-count-zero = empty-slots.copy-full-when-count-zero flat
+
+pub delete-full-when-count-zero : (d : Desk) (site p : ℕ)
+    → FirstOf (lentRows flat d (deleteRowsWhen flat (emptySlots flat d ≡ 0) d site p)) (step flat d (Delete site p) .answer .number)
+delete-full-when-count-zero = empty-slots.delete-full-when-count-zero flat

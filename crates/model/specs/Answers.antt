@@ -4,13 +4,17 @@ use Rattle.model.specs.declared.Posted.{Posted}
 use Rattle.model.specs.declared.Posted.the-variants.{Nothing}
 use Rattle.model.specs.declared.Answer.{Answer}
 
--- an accepted call has number 0
+-- an accepted call has number 0; most tell no count of empty slots
 abbrev pub accepted : ℕ → Posted → Answer
-accepted value posted = record { number = 0; value = value; posted = posted }
+accepted value posted = record { number = 0; value = value; empty = 0; posted = posted }
+
+-- make copy and delete hand it on (Document 02, One)
+abbrev pub acceptedTelling : ℕ → ℕ → Posted → Answer
+acceptedTelling empty value posted = record { number = 0; value = value; empty = empty; posted = posted }
 
 -- each refusal returns its number, value 0 and no message
 abbrev pub refused : ℕ → Answer
-refused number = record { number = number; value = 0; posted = Nothing }
+refused number = record { number = number; value = 0; empty = 0; posted = Nothing }
 
 -- what a call gives: its answer, and the lent memory as it leaves it
 pub record Outcome (D : Type 0) : Type 0 where

@@ -7,9 +7,9 @@ use Rattle.model.specs.declared.Posted.the-variants.{Copy, Dec, IncDec, 
 use Rattle.model.specs.declared.Call.{Call}
 use Rattle.model.specs.declared.Call.the-variants.{MakeCopy, Receive, Delete, Ask}
 use Rattle.model.specs.Refusals.{BadShape, BadTable, BadName, SameSite, NotHeld, CounterFull, PoolFull, EmptySlot, Held, IsOwner, StillCounted, NotOwner, _when_, _orElse_}
-use Rattle.model.specs.Questions.{some, lowest}
+use Rattle.model.specs.Questions.{some, howMany, lowest}
 use Rattle.model.specs.Messages.{receiver, pointerOf, receiveRefusal, counterAfter, cellAfter, reply, isIncDec}
-use Rattle.model.specs.Answers.{accepted, Outcome, unless}
+use Rattle.model.specs.Answers.{accepted, acceptedTelling, Outcome, unless}
 use Rattle.model.specs.Layout.{Layout}
 
 -- make copy 4, 5, 6, 7: of the owner, the sender's cell and counter, the lowest empty slot and the slot count
@@ -50,6 +50,10 @@ module _ {D : Type 0} (L : Layout D) where
   abbrev pub lowestEmpty : D → ℕ
   lowestEmpty d = lowest (slots d) (empty d)
 
+  -- how many slots are empty
+  abbrev pub emptySlots : D → ℕ
+  emptySlots d = howMany (slots d) (empty d)
+
   -- ---- opening
   unfoldable pub openRefusal : D → ℕ
   openRefusal d = BadShape when not (shaped d) orElse BadTable when not (owned d)
@@ -63,12 +67,12 @@ module _ {D : Type 0} (L : Layout D) where
       front d (ltb from (sites d) && ltb to (sites d) && ltb p (pointers d))
       orElse copyRefusal from to (owner d p) (cell d from p) (counter d from p) (lowestEmpty d) (slots d)
 
-  -- the sender's counter rises by 1; COPY(from, to) goes to the lowest empty slot; the value is that slot
+  -- the sender's counter rises by 1; COPY(from, to) goes to the lowest empty slot; the value is that slot; how many were empty before is told
   unfoldable pub copied : D → ℕ → ℕ → ℕ → Outcome D
   copied d from to p =
       let raised = setCounter d from p (counter d from p + 1) in
       record {
-        answer = accepted (lowestEmpty d) (Copy from to p);
+        answer = acceptedTelling (emptySlots d) (lowestEmpty d) (Copy from to p);
         desk = post raised (lowestEmpty d) (Copy from to p);
       }
 
@@ -114,11 +118,11 @@ module _ {D : Type 0} (L : Layout D) where
       front d (ltb site (sites d) && ltb p (pointers d))
       orElse deleteRefusal site (owner d p) (cell d site p) (counter d site p) (lowestEmpty d) (slots d)
 
-  -- the receive cell becomes 0; DEC(site, owner) goes to the lowest empty slot; the value is that slot
+  -- the receive cell becomes 0; DEC(site, owner) goes to the lowest empty slot; the value is that slot; how many were empty before is told
   unfoldable pub deleted : D → ℕ → ℕ → Outcome D
   deleted d site p =
       record {
-        answer = accepted (lowestEmpty d) (Dec site (owner d p) p);
+        answer = acceptedTelling (emptySlots d) (lowestEmpty d) (Dec site (owner d p) p);
         desk = post (setCell d site p 0) (lowestEmpty d) (Dec site (owner d p) p);
       }
 

@@ -67,6 +67,13 @@ pub data ReachedFrom {D Move : Type 0} (Start : D → Type 0) (after : D → Mov
   begins : {d : D} → Start d → ReachedFrom Start after d
   moves : {d : D} → ReachedFrom Start after d → (m : Move) → ReachedFrom Start after (after d m)
 
+-- make copy and delete tell how many slots are empty (Document 02, One)
+abbrev pub Tells : Call → Type 0
+Tells (MakeCopy from to p) = Unit {0}
+Tells (Receive slot) = ⊥
+Tells (Delete site p) = Unit {0}
+Tells (Ask site p) = ⊥
+
 module _ {D : Type 0} (L : Layout D) where
   open Layout L using (sites, pointers, owner, counter, cell, slots, empty, message, shaped, owned, sound, early)
 
@@ -94,15 +101,18 @@ module _ {D : Type 0} (L : Layout D) where
       ∷ BadTable because (owned d ≡ false)
       ∷ []
 
-  -- make copy 3, 4, 5, 6, 7
-  abbrev pub copyRows : D → ℕ → ℕ → ℕ → List Row
-  copyRows d from to p =
+  -- make copy 3, 4, 5, 6, 7, where the pool is full
+  abbrev pub copyRowsWhen : Type 0 → D → ℕ → ℕ → ℕ → List Row
+  copyRowsWhen full d from to p =
       BadName because ((sites d ≤ from) ⊎ (sites d ≤ to) ⊎ (pointers d ≤ p))
       ∷ SameSite because (from ≡ to)
       ∷ NotHeld because ((from ≢ owner d p) × (cell d from p ≡ 0))
       ∷ CounterFull because (counter d from p ≡ 65535)
-      ∷ PoolFull because (NoSlotEmpty d)
+      ∷ PoolFull because full
       ∷ []
+
+  abbrev pub copyRows : D → ℕ → ℕ → ℕ → List Row
+  copyRows d = copyRowsWhen (NoSlotEmpty d) d
 
   -- DEC 9: what comes too early in document 01
   abbrev pub heldRowsOf : D → Posted → List Row
@@ -129,15 +139,18 @@ module _ {D : Type 0} (L : Layout D) where
       ∷ EmptySlot because (empty d slot ≡ true)
       ∷ (earlyRows d slot ++ messageRows d (message d slot))
 
-  -- delete 3, 11, 5, 12, 7
-  abbrev pub deleteRows : D → ℕ → ℕ → List Row
-  deleteRows d site p =
+  -- delete 3, 11, 5, 12, 7, where the pool is full
+  abbrev pub deleteRowsWhen : Type 0 → D → ℕ → ℕ → List Row
+  deleteRowsWhen full d site p =
       BadName because ((sites d ≤ site) ⊎ (pointers d ≤ p))
       ∷ IsOwner because (site ≡ owner d p)
       ∷ NotHeld because (cell d site p ≡ 0)
       ∷ StillCounted because (counter d site p ≢ 0)
-      ∷ PoolFull because (NoSlotEmpty d)
+      ∷ PoolFull because full
       ∷ []
+
+  abbrev pub deleteRows : D → ℕ → ℕ → List Row
+  deleteRows d = deleteRowsWhen (NoSlotEmpty d) d
 
   -- ask 3, 13
   abbrev pub askRows : D → ℕ → ℕ → List Row

@@ -13,6 +13,11 @@ unfoldable pub some : ℕ → (ℕ → Bool) → Bool
 some zero P = false
 some (suc n) P = some n P || P n
 
+-- of how many numbers below n P holds
+unfoldable pub howMany : ℕ → (ℕ → Bool) → ℕ
+howMany zero P = 0
+howMany (suc n) P = howMany n P + cond (P n) 1 0
+
 -- the lowest of the n numbers from i on of which P holds; i + n where there is none
 unfoldable pub lowestFrom : ℕ → ℕ → (ℕ → Bool) → ℕ
 lowestFrom i zero P = i

@@ -5,8 +5,9 @@ use mathlib.Core.List.{List, [], _++_, map}
 use lib.Dec.{leb, ltb, eqb}
 use lib.ListN.{length, getD}
 use Rattle.model.specs.declared.Posted.{Posted}
+use Rattle.model.specs.declared.Empties.{Empties}
 use Rattle.model.specs.Refusals.{BadShape, BadTable, _when_, _orElse_}
-use Rattle.model.specs.Questions.{every}
+use Rattle.model.specs.Questions.{every, howMany, lowest}
 use Rattle.model.specs.Messages.{messageOf}
 
 -- S, owners, send table, receive table, pool; R and Q are the forms of the last two
@@ -83,6 +84,10 @@ messageAt w pool i = atSlot w messageOf pool i
 
 abbrev pub emptyAt : ℕ → List ℕ → ℕ → Bool
 emptyAt w pool i = eqb (getD pool (i * w) 0) 0
+
+-- the search for the lowest empty slot, which also says how many are empty
+abbrev pub searched : ℕ → List ℕ → Empties
+searched w pool = record { slot = lowest (slotsOf w pool) (emptyAt w pool); count = howMany (slotsOf w pool) (emptyAt w pool) }
 
 -- ---- what an opening writes into the receive table
 -- the row of a site: 1 for each pointer that it owns, 0 for the others

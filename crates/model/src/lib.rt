@@ -21,10 +21,11 @@ pub enum Posted {
     Nothing,
 }
 
-// An answer: a refusal number (0: accepted), a value and the posted message (Document 01, The calls).
+// An answer: a refusal number (0: accepted), a value, the posted message (Document 01, The calls), and how many slots were empty before a post, 0: not told (Document 02, One).
 pub struct Answer {
     pub number: u8,
     pub value: u16,
+    pub empty: u16,
     pub posted: Posted,
 }
 
@@ -34,6 +35,12 @@ pub struct Effect {
     pub counter: u16,
     pub cell: u8,
     pub posted: Posted,
+}
+
+// What the search for the lowest empty slot answers: the slot, the slot count where none is empty, and how many are empty (Document 02, One).
+pub struct Empties {
+    pub slot: usize,
+    pub count: usize,
 }
 
 // A share's answer: a refusal number and one signed whole number (Document 01, Share and sheet).

@@ -25,9 +25,9 @@ use Rattle.pointer_desk.specs.declared.counts.DeskShare.{DeskShare}
 use Rattle.pointer_desk.specs.declared.addresses.DeskPart.{DeskPart}
 use Rattle.pointer_desk.specs.declared.line.DeskLine.{DeskLine}
 
--- an answer: number, value, and the message as slot bytes
+-- an answer: number, value, how many slots were empty before a post, and the message as slot bytes
 abbrev pub flatAnswer : Answer → DeskAnswer
-flatAnswer a = record { number = a .number; value = a .value; message = slotOf (a .posted) }
+flatAnswer a = record { number = a .number; value = a .value; empty = a .empty; message = slotOf (a .posted) }
 
 -- what a host is given: the answer in C's form, and the lent memory as the call leaves it
 pub record Given (D : Type 0) : Type 0 where

@@ -4,11 +4,12 @@ use rules::message::slot_bytes;
 ghost use mathlib.Core.Path.{_≡_};
 ghost use Rattle.pointer_desk.specs.Boundary.{flatAnswer};
 
-// Number, value, and the message as slot bytes.
+// Number, value, how many slots were empty before a post (0: not told), and the message as slot bytes.
 #[repr(C)]
 pub struct DeskAnswer {
     pub number: u8,
     pub value: u16,
+    pub empty: u16,
     pub message: [u8; 5],
 }
 
@@ -21,6 +22,7 @@ pub fn flat_answer(a: Answer) -> DeskAnswer
     DeskAnswer {
         number: a.number,
         value: a.value,
+        empty: a.empty,
         message,
     }
 }

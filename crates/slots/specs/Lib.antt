@@ -1,1 +1,2 @@
 pub mod FirstSlots
+pub mod Search

@@ -1,15 +1,17 @@
 -- Make copy meets its promise: 1, 2, 3, then 4 to 7, then the counter and the slot.
 use Prim.Native.Nat.{_<_}
-use mathlib.Core.Path.{_≡_, sym, _∙_}
+use mathlib.Core.Path.{_≡_, sym, ap, _∙_}
 use mathlib.Core.Bool.{_&&_}
 use native.Mathlib.Omega.{arith}
 use lib.Dec.{ltb}
 use lib.ListN.{length, getD}
 use borrow.Author.Needs.{needs}
 use borrow.Author.Tests.{ltb-true}
+use Rattle.model.specs.declared.Empties.{Empties}
 use Rattle.model.specs.Calls.{copyRefusal, lowestEmpty, copyNumber, makeCopy}
-use Rattle.model.specs.Tables.{Desk, lent, slotsOf}
+use Rattle.model.specs.Tables.{Desk, lent, slotsOf, emptyAt}
 use Rattle.model.specs.Flat.{flat}
+use Rattle.model.proofs.EmptySlots.{at-most-all}
 use Rattle.model.proofs.TestLaws.{and-both, refused-by-front, refused-by-own, accepted-by-both}
 use Rattle.bytes.proofs.FrontLaws.{Ready, ready-names}
 use Rattle.bytes.proofs.EffectLaws.{copy-clear, read-as, copied-as}
@@ -102,7 +104,7 @@ returns-2 c =
 
 -- none of them is given: the counter can rise, and the slot is empty
 clear : (c : tie.Else2) → let k = c .before in let o = place-of k in let a = start (o .before .before) .args in
-    (getD (a .send .now) (o .place-of .result) 0 ≡ 65535 → ⊥) × (k .before .before .before .lowest-empty .result < slotsOf 5 (a .pool .now))
+    (getD (a .send .now) (o .place-of .result) 0 ≡ 65535 → ⊥) × (k .before .before .before .lowest-empty .result .slot < slotsOf 5 (a .pool .now))
 clear c = copy-clear _ _ _ _ _ _ _ (sym (c .before .copy-refusal .ensures) ∙ c .if2 .left)
 
 add-send : tie.Need-add-send
@@ -117,11 +119,17 @@ slice-write-send c = in-send (place-of (c .before))
 write-slot-requires : tie.Need-write-slot-requires
 write-slot-requires c κs = omega (arith, clear (c .before) .1)
 
-cast-accepted : tie.Need-cast-accepted
-cast-accepted c = let e = c .before .before .before .before in omega (arith, clear e .1, known (place-of (e .before) .before) .few-slots)
+cast-accepted-telling : tie.Need-cast-accepted-telling
+cast-accepted-telling c =
+    let k = c .before .before .before .before .before .before in
+    let pool = start (place-of k .before .before) .args .pool .now in
+    omega (arith, ap (λ (f : Empties). f .count) (k .before .before .before .lowest-empty .ensures), at-most-all (slotsOf 5 pool) (emptyAt 5 pool), known (place-of k .before) .few-slots)
 
-accepted-requires : tie.Need-accepted-requires
-accepted-requires c κs = search needs
+cast-accepted-telling-2 : tie.Need-cast-accepted-telling-2
+cast-accepted-telling-2 c = let e = c .before .before .before .before .before in omega (arith, clear e .1, known (place-of (e .before) .before) .few-slots)
+
+accepted-telling-requires : tie.Need-accepted-telling-requires
+accepted-telling-requires c κs = search needs
 
 same-length-5 : tie.Need-same-length-5
 same-length-5 c = search needs
@@ -132,12 +140,12 @@ same-length-6 c = search needs
 returns-3 : tie.Need-returns-3
 unfolding makeCopy copyNumber
 returns-3 c =
-    let w = c .before .before .before in
+    let w = c .before .before .before .before in
     let o = w .before .before in
     let k = o .before in
     let e = place-of k .before in
     let d = desk (start (e .before)) in
-    copied-as d _ _ (place-of k .place-of .ensures) (k .before .before .before .lowest-empty .ensures) _ (c .accepted .ensures) (w .write-slot .ensures)
+    copied-as d _ _ (place-of k .place-of .ensures) (k .before .before .before .lowest-empty .ensures) _ (c .accepted-telling .ensures) (w .write-slot .ensures)
     ∙ accepted-by-both d _ _ _ (sym (e .before .front .ensures) ∙ e .if1 .left) (sym (own k) ∙ o .if2 .left)
 
 pub make-copy-spec : {M : Type 1} → statement M
@@ -164,8 +172,9 @@ make-copy-spec =
     mul-send
     slice-write-send
     write-slot-requires
-    cast-accepted
-    accepted-requires
+    cast-accepted-telling
+    cast-accepted-telling-2
+    accepted-telling-requires
     same-length-5
     same-length-6
     returns-3)

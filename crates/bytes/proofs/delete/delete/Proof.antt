@@ -1,13 +1,15 @@
 -- Delete meets its promise: 1, 2, 3, then 11, 5, 12, 7, then the cell and the slot.
 use Prim.Native.Nat.{_<_}
-use mathlib.Core.Path.{_≡_, sym, _∙_}
+use mathlib.Core.Path.{_≡_, sym, ap, _∙_}
 use native.Mathlib.Omega.{arith}
 use lib.ListN.{length}
 use borrow.Author.Needs.{needs}
 use borrow.Author.Tests.{ltb-true}
+use Rattle.model.specs.declared.Empties.{Empties}
 use Rattle.model.specs.Calls.{deleteRefusal, lowestEmpty, deleteNumber, delete}
-use Rattle.model.specs.Tables.{Desk, lent, slotsOf}
+use Rattle.model.specs.Tables.{Desk, lent, slotsOf, emptyAt}
 use Rattle.model.specs.Flat.{flat}
+use Rattle.model.proofs.EmptySlots.{at-most-all}
 use Rattle.model.proofs.TestLaws.{refused-by-front, refused-by-own, accepted-by-both}
 use Rattle.bytes.proofs.FrontLaws.{Ready, ready-names}
 use Rattle.bytes.proofs.EffectLaws.{delete-clear, read-as, deleted-as}
@@ -98,7 +100,7 @@ returns-2 c =
     refused-by-own (desk (start (e .before))) _ (k .delete-refusal .result) _ _ (sym (e .before .front .ensures) ∙ e .if1 .left) (c .before .if2 .taken) (own k) (c .refused2 .ensures)
 
 -- none of them is given: the slot is empty
-clear : (c : tie.Else2) → let k = c .before in k .before .before .before .lowest-empty .result < slotsOf 5 (start (place-of k .before .before) .args .pool .now)
+clear : (c : tie.Else2) → let k = c .before in k .before .before .before .lowest-empty .result .slot < slotsOf 5 (start (place-of k .before .before) .args .pool .now)
 clear c = delete-clear _ _ _ _ _ _ (sym (c .before .delete-refusal .ensures) ∙ c .if2 .left)
 
 slice-write-receive : tie.Need-slice-write-receive
@@ -107,11 +109,17 @@ slice-write-receive c = in-receive (place-of (c .before))
 write-slot-requires : tie.Need-write-slot-requires
 write-slot-requires c κs = omega (arith, clear (c .before))
 
-cast-accepted : tie.Need-cast-accepted
-cast-accepted c = let e = c .before .before .before .before in omega (arith, clear e, known (place-of (e .before) .before) .few-slots)
+cast-accepted-telling : tie.Need-cast-accepted-telling
+cast-accepted-telling c =
+    let k = c .before .before .before .before .before .before in
+    let pool = start (place-of k .before .before) .args .pool .now in
+    omega (arith, ap (λ (f : Empties). f .count) (k .before .before .before .lowest-empty .ensures), at-most-all (slotsOf 5 pool) (emptyAt 5 pool), known (place-of k .before) .few-slots)
 
-accepted-requires : tie.Need-accepted-requires
-accepted-requires c κs = search needs
+cast-accepted-telling-2 : tie.Need-cast-accepted-telling-2
+cast-accepted-telling-2 c = let e = c .before .before .before .before .before in omega (arith, clear e, known (place-of (e .before) .before) .few-slots)
+
+accepted-telling-requires : tie.Need-accepted-telling-requires
+accepted-telling-requires c κs = search needs
 
 same-length-5 : tie.Need-same-length-5
 same-length-5 c = search needs
@@ -122,12 +130,12 @@ same-length-6 c = search needs
 returns-3 : tie.Need-returns-3
 unfolding delete deleteNumber
 returns-3 c =
-    let w = c .before .before .before in
+    let w = c .before .before .before .before in
     let o = w .before .before in
     let k = o .before in
     let e = place-of k .before in
     let d = desk (start (e .before)) in
-    deleted-as d _ _ (place-of k .place-of .ensures) (k .before .before .before .lowest-empty .ensures) (c .accepted .ensures) (w .write-slot .ensures)
+    deleted-as d _ _ (place-of k .place-of .ensures) (k .before .before .before .lowest-empty .ensures) (c .accepted-telling .ensures) (w .write-slot .ensures)
     ∙ accepted-by-both d _ _ _ (sym (e .before .front .ensures) ∙ e .if1 .left) (sym (own k) ∙ o .if2 .left)
 
 pub delete-spec : {M : Type 1} → statement M
@@ -152,8 +160,9 @@ delete-spec =
     returns-2
     slice-write-receive
     write-slot-requires
-    cast-accepted
-    accepted-requires
+    cast-accepted-telling
+    cast-accepted-telling-2
+    accepted-telling-requires
     same-length-5
     same-length-6
     returns-3)
