@@ -16,7 +16,7 @@ INLINE desk_answer post(const lent *d, size_t slot, unsigned kind, unsigned from
 /* What the pool adds to a site's share. */
 INLINE int32_t pooled(const lent *d, unsigned site, unsigned owner, unsigned pointer);
 
-/* The pool's messages into a sheet of zeros. */
+/* The pool's messages into a sheet of zeros: a COPY at its sender, a DEC at its receiver, an INC_DEC at its third site, so at slot byte 1, 2, 3 as its kind says. */
 INLINE void enter(const lent *d, unsigned pointer, uint32_t *sheet);
 
 #define PARTS(SEND, RECEIVE, POOL) \

@@ -73,6 +73,6 @@ static int32_t pooled(const lent *d, unsigned site, unsigned owner, unsigned poi
 static void enter(const lent *d, unsigned pointer, uint32_t *sheet) {
     for (size_t slot = 0; slot < d->slots; slot++) {
         const uint8_t *m = d->pool + slot * SLOT;
-        if (m[4] == pointer && m[0] != EMPTY) sheet[(m[0] - 1) * MOST_SITES + m[1]]++;
+        if (m[4] == pointer && m[0] != EMPTY) sheet[(m[0] - 1) * MOST_SITES + m[m[0]]]++;
     }
 }

@@ -109,5 +109,5 @@ INLINE int32_t pooled(const lent *d, unsigned site, unsigned owner, unsigned poi
 }
 
 INLINE void enter(const lent *d, unsigned pointer, uint32_t *restrict sheet) {
-    EACH_SLOT(if (p[4] == pointer && p[0]) sheet[(p[0] - 1) * MOST_SITES + p[1]]++;)
+    EACH_SLOT(if (p[4] == pointer && p[0]) sheet[(p[0] - 1) * MOST_SITES + p[p[0]]]++;)
 }

@@ -107,7 +107,8 @@ desk_share_answer desk_share(uint8_t sites, const uint8_t *owners, size_t owners
                              const uint16_t *send, size_t send_len, const uint8_t *receive, size_t receive_len,
                              const uint8_t *pool, size_t pool_len, uint8_t site, uint8_t pointer);
 
-/* Share and sheet: 192 counts, row by row, all 0 after a refusal; another length gives 1, and nothing is written. */
+/* Share and sheet: 192 counts, row by row (COPY, DEC, INC_DEC), 64 columns; a message stands in the column of the site whose counter it acts on:
+ * the sender of a COPY, the receiver of a DEC, the third site of an INC_DEC. All 0 after a refusal; another length gives 1, and nothing is written. */
 uint8_t desk_sheet(uint8_t sites, const uint8_t *owners, size_t owners_len,
                    const uint16_t *send, size_t send_len, const uint8_t *receive, size_t receive_len,
                    const uint8_t *pool, size_t pool_len, uint8_t pointer, uint32_t *sheet, size_t sheet_len);

@@ -75,7 +75,7 @@ pub struct Accepted {
 
 pub type Answer = Result<Accepted, Refusal>;
 
-// Rows for COPY, DEC and INC_DEC, with a column for each site (document 01, Share and sheet).
+// Rows for COPY, DEC and INC_DEC, with a column for each site: the one whose counter a message acts on (document 01, Share and sheet; document 02, Two).
 pub type Sheet = [[u32; 64]; 3];
 
 // The four bytes of a call (document 01, Lines).

@@ -84,12 +84,18 @@ def check_sums(desk, pointer, messages, tally):
 
 
 def check_others(desk, pointer, messages, tally):
-    """Lemma 4 and the bound at a site that is not the owner."""
+    """Lemma 4, also by the sheet's three rows, and the bound at a site that is not the owner."""
     acting = Counter(under_control(message) for message in messages)
+    number, sheet_rows = machine.sheet(desk, pointer)
+    sheet = machine.sheet_counts(sheet_rows)
+    columns = [sum(column) for column in zip(sheet[:64], sheet[64:128], sheet[128:])]
+    tally.claim("sheet", number == 0 and len(columns) == 64 and not any(columns[desk.sites:]), "pointer", pointer)
+    tally.claim("sheet's entries", sum(columns) == len(messages) <= len(desk.slots), "pointer", pointer)
     for site in range(desk.sites):
         if site != desk.owner_of[pointer]:
             count = desk.count(site, pointer)
             tally.claim("lemma 4", count == acting[site], "site", site, "pointer", pointer)
+            tally.claim("sheet's column", count == columns[site], "site", site, "pointer", pointer)
             tally.claim("bound 1024", 0 <= count <= MOST_NOT_OWNER, "site", site, "count", count)
             tally.greatest_other = max(tally.greatest_other, count)
 

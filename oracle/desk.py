@@ -252,14 +252,21 @@ def no_rows():
     return {COPY: {}, DEC: {}, INC_DEC: {}}
 
 
+def column_of(message):
+    """The site whose counter a message acts on (document 02, Two; the paper's Definition 3)."""
+    if message.kind == COPY:
+        return message.sender
+    return message.receiver if message.kind == DEC else message.third
+
+
 def sheet(desk, pointer):
-    """Messages of one pointer by kind and by the site they came from; a missing column is 0."""
+    """Messages of one pointer by kind and by the site whose counter they act on; a missing column is 0."""
     if desk.lacks_pointer(pointer):
         return SheetAnswer(BAD_NAME, no_rows())
     rows = no_rows()
     for message in desk.in_flight():
         if message.pointer == pointer:
-            row, column = rows[message.kind], message.sender
+            row, column = rows[message.kind], column_of(message)
             row[column] = row.get(column, 0) + 1
     return SheetAnswer(ACCEPTED, rows)
 

@@ -221,7 +221,25 @@ def empty_slots():
     return [(name, lent, names) for lent in lents for name, names in calls]
 
 
+def sheet_columns():
+    """The column of each kind, owner and third site included, and sums that no opening leads to."""
+    inc_dec, dec = (INC_DEC, 2, 0, 1, 0), (DEC, 2, 0, 0, 0)
+    lents = [
+        tables_of(3, [0], {(0, 0): 1}, [(1, 0)], [NO_SLOT] * 4),
+        tables_of(3, [0], {(0, 0): 1, (1, 0): 1}, [(1, 0), (2, 0)], [inc_dec] + [NO_SLOT] * 3),
+        tables_of(3, [0], {(0, 0): 1, (1, 0): 1}, [(1, 0)], [inc_dec, dec, NO_SLOT, NO_SLOT]),
+        tables_of(2, [0], {(1, 0): 1})]
+    messages = [(COPY, 1, 2, 0, 0), (DEC, 1, 2, 0, 0), (INC_DEC, 1, 2, 3, 0), (INC_DEC, 1, 3, 1, 0),
+                (INC_DEC, 1, 2, 0, 0), (INC_DEC, 0, 0, 0, 0), (COPY, 0, 3, 0, 0), (COPY, 3, 0, 0, 0),
+                (DEC, 3, 0, 0, 0), (DEC, 0, 3, 0, 0), (COPY, 3, 3, 0, 0), (INC_DEC, 3, 1, 0, 1)]
+    lents += [tables_of(4, [0, 2], slots=[message, NO_SLOT]) for message in messages]
+    lents += [tables_of(4, [0, 2], slots=messages), tables_of(4, [3, 3], slots=messages[::-1]),
+              tables_of(64, [0], slots=[(COPY, 63, 1, 0, 0), (DEC, 1, 63, 0, 0), (INC_DEC, 1, 0, 63, 0)])]
+    lents += [tables_of(3, [0], slots=[message] * 1024) for message in ((COPY, 1, 2, 0, 0), dec, inc_dec)]
+    return [("sheet", lent, (0, 192)) for lent in lents]
+
+
 def fixed_calls():
     groups = (document_examples, openings, asks, copies, arrivals, deletes, shares_and_sheets,
-              damaged_tables, books, large_tables, empty_slots)
+              damaged_tables, books, large_tables, empty_slots, sheet_columns)
     return [LentCall(*call) for group in groups for call in group()]

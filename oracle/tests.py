@@ -17,12 +17,12 @@ import soak
 import tables
 from case_parts import answers
 from case_parts import lines as whole_lines
-from desk import COPY, DEC, INC_DEC, open_desk, share_of
+from desk import COPY, DEC, INC_DEC, open_desk, share_of, sheet
 from lent_fixed import tables_of
 from lines import Ask, Delete, Ended, MakeCopy, Reader, Receive, Refusal
 from patched import Mutant, load
 
-REDUCED = dict(inputs=3, lent_calls=560, line_calls=3700)
+REDUCED = dict(inputs=3, lent_calls=590, line_calls=3700)
 CLAIM_SEEDS = (1, 2, 3)
 
 
@@ -172,6 +172,22 @@ def test_empty_slots():
         yield "%d slots" % slots, (answer.number, answer.empty) == (0 if slots else 7, told)
 
 
+def test_sheet():
+    """Document 02, Two: the sheet of the fourteen lines, and one whose sums no opening leads to."""
+    _, desk = program.open_by_line(b"03000400")
+    seen = {}
+    for number, line in enumerate(case_stories.FOURTEEN_IN.split()[1:], start=2):
+        program.answer_to(desk, lines.call_of_line(line.encode()))
+        _, rows = sheet(desk, 0)
+        counters = [desk.count(site, 0) for site in range(3)]
+        seen[number] = [[rows[kind].get(site, 0) for site in range(3)] for kind in (COPY, DEC, INC_DEC)], counters
+    yield "line 3", seen[3] == ([[0, 0, 0]] * 3, [1, 0, 0])
+    yield "line 5", seen[5] == ([[0, 0, 0], [0, 0, 0], [0, 1, 0]], [1, 1, 0])
+    yield "line 6", seen[6] == ([[0, 0, 0], [1, 0, 0], [0, 1, 0]], [1, 1, 0])
+    other = tables_of(2, [0], {(1, 0): 1})
+    yield "no sums on lent tables", tables.lent_sheet(other, 0)[0] == (0, {COPY: {}, DEC: {}, INC_DEC: {}})
+
+
 def test_book():
     """Single sentences of document 01 about the book."""
     entries = b"\2AB\1C"
@@ -227,7 +243,9 @@ def test_claims_fail():
                  "Held never tested", "a COPY to the owner is nothing", "Held by the third site as sender",
                  "an INC_DEC raises nothing", "share with INC_DECs as plus",
                  "ask by the cells of the other sites", "a delete does not look at the counter",
-                 "empty slots: counted after the post", "empty slots: told by a receive"):
+                 "empty slots: counted after the post", "empty slots: told by a receive",
+                 "sheet entered at the sender, as before request Two", "sheet with INC_DECs at their sender",
+                 "sheet with COPYs at their receiver", "sheet with DECs at their sender"):
         yield name, claims_fail_on(name)
 
 

@@ -221,14 +221,39 @@ def shares():
 
 
 def sheets():
-    column = "row, column = rows[message.kind], message.sender"
+    column, rows = "row, column = rows[message.kind], column_of(message)", "for kind in (COPY, DEC, INC_DEC) for site"
+    copy_column = "    if message.kind == COPY:\n        return message.sender\n"
+    other_column = "    return message.receiver if message.kind == DEC else message.third\n"
+
+    def entered(where, site):
+        return mutant("sheet entered at " + where, "desk", column, column.replace("column_of(message)", site))
+
+    def entered_by(wrong, old, new):
+        return mutant("sheet with " + wrong, "desk", old, new)
     return [
-        mutant("sheet entered at the receiver", "desk", column, column.replace("sender", "receiver")),
-        mutant("sheet entered where the message acts (request Two)", "desk", column,
-               "row, column = rows[message.kind], {COPY: message.sender, DEC: message.receiver,"
-               " INC_DEC: message.third}[message.kind]"),
-        mutant("sheet with the rows of COPY and DEC exchanged", "desk",
-               "for kind in (COPY, DEC, INC_DEC) for site", "for kind in (DEC, COPY, INC_DEC) for site"),
+        entered("the sender, as before request Two", "message.sender"),
+        entered("the receiver", "message.receiver"),
+        entered("the third site", "message.third"),
+        entered("the owner", "desk.owner_of[pointer]"),
+        entered_by("COPYs at their receiver", copy_column, copy_column.replace("sender", "receiver")),
+        entered_by("COPYs at their third site", copy_column, copy_column.replace("sender", "third")),
+        entered_by("DECs at their sender", other_column, other_column.replace("receiver", "sender")),
+        entered_by("DECs at their third site", other_column, other_column.replace("receiver", "third")),
+        entered_by("INC_DECs at their sender", other_column, other_column.replace("third", "sender")),
+        entered_by("INC_DECs at their receiver", other_column, other_column.replace("third", "receiver")),
+        mutant("sheet with INC_DECs at both their receiver and third site", "desk",
+               "            row[column] = row.get(column, 0) + 1\n",
+               "            row[column] = row.get(column, 0) + 1\n            if message.kind == INC_DEC:\n"
+               "                row[message.receiver] = row.get(message.receiver, 0) + 1\n"),
+        mutant("sheet with the owner's column left 0", "desk",
+               "        if message.pointer == pointer:\n            row",
+               "        if message.pointer == pointer and not desk.owns(column_of(message), pointer):\n            row"),
+        mutant("sheet with the rows of COPY and DEC exchanged", "desk", rows,
+               "for kind in (DEC, COPY, INC_DEC) for site"),
+        mutant("sheet with the rows of DEC and INC_DEC exchanged", "desk", rows,
+               "for kind in (COPY, INC_DEC, DEC) for site"),
+        mutant("sheet with the rows of COPY and INC_DEC exchanged", "desk", rows,
+               "for kind in (INC_DEC, DEC, COPY) for site"),
         mutant("sheet over all pointers", "desk",
                "        if message.pointer == pointer:\n            row",
                "        if True:\n            row"),

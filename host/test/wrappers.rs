@@ -127,7 +127,7 @@ fn counts(t: &mut Tally) {
     t.expect("empty slots behind the lowest", between.lend().make_copy(0, 1, 0) == told(2, 1, copy));
 }
 
-// Document 01, Share and sheet: its own example, and a message of each kind in the column where it came from.
+// Document 01, Share and sheet: its own example, and a message of each kind in the column of the site whose counter it acts on (document 02, Two).
 fn share_and_sheet(t: &mut Tally) {
     let mut below = Tables::new(2, &[1, 0], &[[3, 1, 0, 0, 0]]);
     t.expect("a share of minus 1", below.lend().share(1, 0) == Ok(-1));
@@ -136,8 +136,8 @@ fn share_and_sheet(t: &mut Tally) {
     let mut mixed = Tables::new(3, &[1, 1, 1], &slots);
     let mut wanted: Sheet = [[0; 64]; 3];
     wanted[0][0] = 1;
-    wanted[1][1] = 2;
-    wanted[2][2] = 1;
+    wanted[1][0] = 2;
+    wanted[2][1] = 1;
     t.expect("a sheet", mixed.lend().sheet(0) == Ok(wanted));
     t.expect("a sheet of pointer 1", mixed.lend().sheet(1) == Err(Refusal::BadName));
 }

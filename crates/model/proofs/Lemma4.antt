@@ -16,9 +16,8 @@ use Rattle.model.specs.Refusals.{_when_}
 use Rattle.model.specs.Questions.{total}
 use Rattle.model.specs.Layout.{Layout}
 use Rattle.model.specs.Laws.{Inside, Laws}
-use Rattle.model.specs.Survey.{inFlight}
+use Rattle.model.specs.Survey.{controls, inFlight}
 use Rattle.model.specs.Meaning.{meant, configOf}
-use Rattle.model.specs.Demands.{controls}
 use Rattle.model.proofs.TestLaws.{and-true, and-false}
 use Rattle.model.proofs.PoolLaws.{total-same}
 use Rattle.model.proofs.KeptLaws.{sent}

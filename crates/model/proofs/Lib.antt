@@ -34,6 +34,7 @@ pub mod Demand3
 pub mod ShareLaws
 pub mod Shares
 pub mod Lemma4
+pub mod SheetSums
 pub mod DigitLaws
 pub mod CallLaws
 pub mod LineLaws

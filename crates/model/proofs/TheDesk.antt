@@ -22,7 +22,7 @@ use Rattle.model.specs.Answers.{accepted, acceptedTelling, refused}
 use Rattle.model.specs.Calls.{heldRefusal, lowestEmpty, emptySlots, lentRefusal, openDesk, replied, step, counterThere, cellThere}
 use Rattle.model.specs.Messages.{receiver, pointerOf, counterAfter, cellAfter}
 use Rattle.model.specs.Laws.{withSlot, Reads}
-use Rattle.model.specs.Survey.{inFlight, sharePlus, shareMinus, shareOf, sharesOfOthers, share, sheetNumber}
+use Rattle.model.specs.Survey.{controls, entryOf, inFlight, sharePlus, shareMinus, shareOf, sharesOfOthers, share, sheetNumber, sheet}
 use Rattle.model.specs.Tables.{Desk}
 use Rattle.model.specs.InWords.{Shaped, GoodTables}
 use Rattle.model.specs.Flat.{flat}
@@ -30,7 +30,7 @@ use Rattle.model.specs.Lines.{digitsOf, bytesOf, lineOf, writeCall, read
 use Rattle.model.specs.Transcript.{answerLine, opening, obeyed, deskBefore, answerLineAt, transcript}
 use Rattle.model.specs.Fields.{FieldsFit}
 use Rattle.model.specs.Meaning.{meant, meaning}
-use Rattle.model.specs.Demands.{FirstOf, _among_, listed, NoSlotEmpty, Tells, openRows, lentRows, copyRowsWhen, deleteRowsWhen, heldRows, rowsOf, TellsEarly, shareRows, sheetRows, LowestEmpty, names, controls, MakesCopy, Receives, Deletes, Reached, Quiet, look}
+use Rattle.model.specs.Demands.{FirstOf, _among_, listed, NoSlotEmpty, Tells, openRows, lentRows, copyRowsWhen, deleteRowsWhen, heldRows, rowsOf, TellsEarly, shareRows, sheetRows, LowestEmpty, names, MakesCopy, Receives, Deletes, Reached, Quiet, look}
 use Rattle.model.specs.LineRows.{lineRows, openingLineRows, AsWritten}
 use Rattle.model.proofs.FlatLaws.{flat-laws}
 use Rattle.model.proofs.InWords as in-words
@@ -49,6 +49,7 @@ use Rattle.model.proofs.Demand3 as demand-3
 use Rattle.model.proofs.TheProgram as the-program
 use Rattle.model.proofs.Shares as shares
 use Rattle.model.proofs.Lemma4 as lemma-4
+use Rattle.model.proofs.SheetSums as sheet-sums
 use Rattle.model.proofs.ReachedLaws.{Means, Stands}
 use Rattle.model.proofs.ReachedLaws as reached-laws
 
@@ -379,3 +380,16 @@ copy-full-when-count-zero = empty-slots.copy-full-when-count-zero flat
 pub delete-full-when-count-zero : (d : Desk) (site p : ℕ)
     → FirstOf (lentRows flat d (deleteRowsWhen flat (emptySlots flat d ≡ 0) d site p)) (step flat d (Delete site p) .answer .number)
 delete-full-when-count-zero = empty-slots.delete-full-when-count-zero flat
+
+-- ---- document 02, Two: the sheet points at the right desk
+-- On a reached desk the question for a sheet is accepted, and the three rows of a column that is not the owner's add up to that site's counter.
+pub sheet-accepted : {d : Desk} → Reached flat d → (p : ℕ) → p < flat .pointers d → sheetNumber flat d p ≡ 0
+sheet-accepted r = sheet-sums.sheet-accepted flat flat-laws (stands r)
+
+pub column-adds-up-to-counter : {d : Desk} → Reached flat d → (p : ℕ) → p < flat .pointers d → (s : ℕ) → s < d .S → s ≢ flat .owner d p
+    → entryOf (sheet flat d p) 0 s + entryOf (sheet flat d p) 1 s + entryOf (sheet flat d p) 2 s ≡ flat .counter d s p
+column-adds-up-to-counter r = sheet-sums.column-adds-up-to-counter flat flat-laws (stands r)
+
+-- On all good tables each entry is at most the slot count.
+pub entry-at-most-slots : (d : Desk) (p : ℕ) → sheetNumber flat d p ≡ 0 → (row site : ℕ) → row < 3 → site < 64 → entryOf (sheet flat d p) row site ≤ flat .slots d
+entry-at-most-slots = sheet-sums.entry-at-most-slots flat

@@ -12,7 +12,7 @@ use Rattle.model.specs.declared.Posted.{Posted}
 use Rattle.model.specs.declared.Posted.the-variants.{Copy, Dec, IncDec, Nothing}
 use Rattle.model.specs.declared.Call.{Call}
 use Rattle.model.specs.declared.Call.the-variants.{MakeCopy, Receive, Delete, Ask}
-use Rattle.model.specs.Refusals.{BadShape, BadTable, BadName, SameSite, NotHeld, CounterFull, PoolFull, EmptySlot, Held, CounterZero, IsOwner, StillCounted, NotOwner, _when_, _orElse_}
+use Rattle.model.specs.Refusals.{BadShape, BadTable, BadName, SameSite, NotHeld, CounterFull, PoolFull, EmptySlot, Held, CounterZero, IsOwner, StillCounted, NotOwner, _orElse_}
 use Rattle.model.specs.Questions.{every}
 use Rattle.model.specs.Layout.{Layout}
 use Rattle.model.specs.Calls.{openRefusal, openDesk, step}
@@ -54,13 +54,6 @@ names p (Copy from to q) = eqb q p
 names p (Dec from to q) = eqb q p
 names p (IncDec from to third q) = eqb q p
 names p Nothing = false
-
--- 1 where a message of p acts on the counter of s: the sender of a COPY, the receiver of a DEC, the third site of an INC_DEC (source document 001, Definition 3)
-abbrev pub controls : ℕ → ℕ → Posted → ℕ
-controls s p (Copy from to q) = 1 when (eqb from s && eqb q p)
-controls s p (Dec from to q) = 1 when (eqb to s && eqb q p)
-controls s p (IncDec from to third q) = 1 when (eqb third s && eqb q p)
-controls s p Nothing = 0
 
 -- ---- from desks of a given set, after any of a desk's own moves in any order; after d m is the desk that the move m leaves of d
 pub data ReachedFrom {D Move : Type 0} (Start : D → Type 0) (after : D → Move → D) : D → Type 0 where

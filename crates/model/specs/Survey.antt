@@ -1,16 +1,16 @@
 -- Document 01, "Share and sheet", over any layout.
 use Prim.Native.Nat.{ℕ, zero, suc, _+_}
-use mathlib.Core.Bool.{_&&_, cond}
-use mathlib.Core.List.{List}
+use mathlib.Core.Bool.{_&&_, not, cond}
+use mathlib.Core.List.{List, []}
 use lib.Dec.{ltb, eqb}
 use lib.IntN.{ℤ, pos, _+ℤ_, _-ℤ_}
-use lib.ListN.{replicate}
+use lib.ListN.{getD, replicate}
 use Rattle.model.specs.declared.Posted.{Posted}
 use Rattle.model.specs.declared.Posted.the-variants.{Copy, Dec, IncDec, Nothing}
 use Rattle.model.specs.declared.Share.{Share}
 use Rattle.model.specs.Refusals.{IsOwner, _when_, _orElse_}
 use Rattle.model.specs.Questions.{total, upTo}
-use Rattle.model.specs.Messages.{kindOf, pointerOf, isIncDec}
+use Rattle.model.specs.Messages.{kindOf, isNothing, pointerOf, isIncDec}
 use Rattle.model.specs.Layout.{Layout}
 use Rattle.model.specs.Calls.{front}
 
@@ -30,12 +30,16 @@ decs a b p Nothing = 0
 abbrev pub incDecs : ℕ → ℕ → ℕ → Posted → ℕ
 incDecs a b p m = 1 when isIncDec a b p m
 
--- the column of a message: the site it came from
+-- the column of a message: the site whose counter it acts on, the sender of a COPY, the receiver of a DEC, the third site of an INC_DEC (Document 02, Two; source document 001, Definition 3)
 abbrev pub column : Posted → ℕ
 column (Copy from to p) = from
-column (Dec from to p) = from
-column (IncDec from to third p) = from
+column (Dec from to p) = to
+column (IncDec from to third p) = third
 column Nothing = 0
+
+-- 1 where a message of pointer p acts on the counter of s, else 0
+abbrev pub controls : ℕ → ℕ → Posted → ℕ
+controls s p m = 1 when (not (isNothing m) && eqb (column m) s && eqb (pointerOf m) p)
 
 -- 1 where a message of pointer p is of this kind and entered in this column, else 0
 abbrev pub entered : ℕ → ℕ → ℕ → Posted → ℕ
@@ -49,6 +53,10 @@ balance plus minus = pos plus -ℤ pos minus
 unfoldable pub sumℤ : ℕ → (ℕ → ℤ) → ℤ
 sumℤ zero f = pos 0
 sumℤ (suc n) f = sumℤ n f +ℤ f n
+
+-- what stands in a row and a column of a sheet
+abbrev pub entryOf : List (List ℕ) → ℕ → ℕ → ℕ
+entryOf rows row site = getD (getD rows row []) site 0
 
 -- three rows of 64 zeros
 abbrev pub blankSheet : List (List ℕ)

@@ -30,7 +30,7 @@ module _ {D : Type 0} (L : Layout D) (d : D) (p : ℕ) where
     unfolding sheet
     entry-counts e = rw (eq-eqb (sheetNumber L d p) 0 e) (entry-at (L .message d) p (L .slots d) row site lr ls)
 
-    -- no good slot has a message from a site at or above S
+    -- no good slot has a message that acts on the counter of a site at or above S
     pub column-above-sites : Laws L → L .sites d ≤ site → getD (getD (sheet L d p) row []) site 0 ≡ 0
     column-above-sites laws above = go (ℕ-discrete (sheetNumber L d p) 0)
       where

@@ -26,8 +26,8 @@ use Rattle.slots.proofs.GridLaws.{up-to-alike, grid-at, grid-raised}
 -- ---- one message is entered at its own place alone
 own-place : (p : ℕ) (m : Posted) → entered p (kindOf m - 1 + 1) (column m) m ≡ amount p m
 own-place p (Copy a b q) = rw (eq-eqb a a refl)
-own-place p (Dec a b q) = rw (eq-eqb a a refl)
-own-place p (IncDec a b c q) = rw (eq-eqb a a refl)
+own-place p (Dec a b q) = rw (eq-eqb b b refl)
+own-place p (IncDec a b c q) = rw (eq-eqb c c refl)
 own-place p Nothing = refl
 
 other-row : (p row site : ℕ) (m : Posted) → row ≢ kindOf m - 1 → entered p (row + 1) site m ≡ 0
@@ -39,8 +39,8 @@ other-column p kind site m apart = rw (ne-eqb (column m) site (λ e. apart (sym 
 -- a message of another pointer is entered nowhere
 not-entered : (p row site : ℕ) (m : Posted) → ofPointer p m ≡ false → entered p (row + 1) site m ≡ 0
 not-entered p row site (Copy a b q) e = rw (other-fields (eqb 1 (row + 1)) (eqb a site) e)
-not-entered p row site (Dec a b q) e = rw (other-fields (eqb 2 (row + 1)) (eqb a site) e)
-not-entered p row site (IncDec a b c q) e = rw (other-fields (eqb 3 (row + 1)) (eqb a site) e)
+not-entered p row site (Dec a b q) e = rw (other-fields (eqb 2 (row + 1)) (eqb b site) e)
+not-entered p row site (IncDec a b c q) e = rw (other-fields (eqb 3 (row + 1)) (eqb c site) e)
 not-entered p row site Nothing e = rw (ne-eqb 0 (row + 1) (λ z. omega arith))
 
 pub amount-at-most-1 : (p : ℕ) (m : Posted) → amount p m ≤ 1
@@ -55,8 +55,8 @@ row-below-3 Nothing = omega arith
 
 column-inside : (sites pointers : ℕ) (m : Posted) → 1 ≤ sites → Inside sites pointers m → column m < sites
 column-inside sites pointers (Copy a b q) some w = w .0
-column-inside sites pointers (Dec a b q) some w = w .0
-column-inside sites pointers (IncDec a b c q) some w = w .0
+column-inside sites pointers (Dec a b q) some w = w .1
+column-inside sites pointers (IncDec a b c q) some w = w .2
 column-inside sites pointers Nothing some w = some
 
 pub column-is-site : {D : Type 0} (L : Layout D) → Laws L → (d : D) → lentRefusal L d ≡ 0 → (slot : ℕ) → slot < L .slots d → column (L .message d slot) < L .sites d

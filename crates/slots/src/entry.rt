@@ -19,14 +19,14 @@ pub fn row(m: Posted) -> usize
     }
 }
 
-// The column of a message: the site it came from.
+// The column of a message: the site whose counter it acts on (Document 02, Two).
 pub fn column(m: Posted) -> u8
     ensures { λ r. ⌜ r ≡ columnOf m ⌝ }
 {
     match m {
         Posted::Copy { from, .. } => from,
-        Posted::Dec { from, .. } => from,
-        Posted::IncDec { from, .. } => from,
+        Posted::Dec { to, .. } => to,
+        Posted::IncDec { third, .. } => third,
         Posted::Nothing => 0,
     }
 }
