@@ -2,10 +2,12 @@
 
 import wrong_lines
 import wrong_machine
+import wrong_order
 import wrong_tables
 from cases_store import stored_cases
 from lent_tables import lent_lines
 from line_calls import line_call_lines
+from ordered_calls import ordered_lines
 from patched import load
 from random_runs import numbered_input
 
@@ -15,15 +17,17 @@ SEED = "mutants"
 class Evidence:
     """What wrong desks are tried against; all of it comes from the true program or by hand."""
 
-    def __init__(self, inputs, lent_calls, line_calls):
+    def __init__(self, inputs, lent_calls, line_calls, ordered_calls):
         self.cases = stored_cases()
         self.inputs = [("input %d" % number,) + numbered_input(SEED, number) for number in range(inputs)]
         self.lent_lines = list(lent_lines(SEED, lent_calls))
         self.line_calls = list(line_call_lines(SEED, line_calls))
+        self.ordered_calls = list(ordered_lines(SEED, ordered_calls))
 
 
 def all_mutants():
-    return wrong_machine.all_mutants() + wrong_tables.all_mutants() + wrong_lines.all_mutants()
+    return (wrong_machine.all_mutants() + wrong_tables.all_mutants() + wrong_lines.all_mutants()
+            + wrong_order.all_mutants())
 
 
 def failure(judge):
@@ -61,6 +65,10 @@ def tries_for(mutant, evidence):
     modules = load(mutant.patches)
     touched = {patch.module for patch in mutant.patches}
     tries = []
+    if touched <= {"in_order", "in_order_tables"}:
+        tries.append(("calls in order", lambda: first_lent(modules, evidence.ordered_calls)))
+        if touched:
+            return tries
     if not touched or not touched <= {"lines", "program"}:
         tries.append(("lent tables", lambda: first_lent(modules, evidence.lent_lines)))
     if not touched or touched & {"lines", "lent_text"}:

@@ -3,9 +3,11 @@
 from collections import namedtuple
 
 import book
+import in_order_tables
 import lines
 import tables
 from desk import Answer
+from in_order_tables import OrderedLent
 from tables import Lent, slot_bytes
 
 UNTOUCHED_COUNT = 0xA5A5A5A5
@@ -25,7 +27,15 @@ BOOK_CALLS = ("address", "check", "search")
 LINE_CALLS = ("write", "read")
 PLAIN_CALLS = {
     "open": tables.lent_open, "copy": tables.lent_make_copy, "receive": tables.lent_receive,
-    "delete": tables.lent_delete, "ask": tables.lent_ask}
+    "delete": tables.lent_delete, "ask": tables.lent_ask,
+    "ordered_open": in_order_tables.lent_open, "ordered_copy": in_order_tables.lent_make_copy,
+    "ordered_receive": in_order_tables.lent_receive, "ordered_delete": in_order_tables.lent_delete,
+    "ordered_ask": in_order_tables.lent_ask}
+SHARE_CALLS = {"share": tables.lent_share, "ordered_share": in_order_tables.lent_share}
+SHEET_CALLS = {"sheet": tables.lent_sheet_into, "ordered_sheet": in_order_tables.lent_sheet_into}
+TABLE_CALLS = ("open", "copy", "receive", "delete", "ask", "share", "sheet")
+ORDERED_CALLS = tuple("ordered_" + name for name in TABLE_CALLS)
+ARGUMENT_FORMS.update({"ordered_" + name: ARGUMENT_FORMS[name] for name in TABLE_CALLS})
 
 
 def part_text(part, empty="-"):
@@ -54,6 +64,12 @@ def lent_texts(lent, empty):
             part_text(lent.pool, empty())]
 
 
+def ordered_texts(lent, empty):
+    """The base's five and the two tables of numbers."""
+    return lent_texts(lent, empty) + [counters_text(lent.to_post, empty()),
+                                      counters_text(lent.to_receive, empty())]
+
+
 def book_texts(parts, empty):
     return ["%02X" % parts.sites, part_text(parts.owners, empty()), part_text(parts.book, empty())]
 
@@ -66,6 +82,8 @@ def texts_of(call):
     """How what is lent to a call is written."""
     if call.name in LINE_CALLS:
         return line_texts
+    if call.name in ORDERED_CALLS:
+        return ordered_texts
     return book_texts if call.name in BOOK_CALLS else lent_texts
 
 
@@ -94,8 +112,10 @@ def read_lent(name, words):
     if name in BOOK_CALLS:
         return BookParts(sites, *map(read_part, words[1:3])), words[3:]
     owners, send, receive, pool = words[1:5]
-    return Lent(sites, read_part(owners), read_counters(send), read_part(receive),
-                read_part(pool)), words[5:]
+    lent = Lent(sites, read_part(owners), read_counters(send), read_part(receive), read_part(pool))
+    if name in ORDERED_CALLS:
+        return OrderedLent(*lent, *map(read_counters, words[5:7])), words[7:]
+    return lent, words[5:]
 
 
 def read_question(text):
@@ -112,9 +132,10 @@ def plain_answer_text(answer):
 
 
 def after_text(before, after):
-    """Owners, counters, receive bytes and pool after the call; = is what it was."""
+    """Owners, counters, receive bytes, pool and numbers after the call; = is what it was."""
     texts = [part_text(after.owners), counters_text(after.send),
-             part_text(after.receive), part_text(after.pool)]
+             part_text(after.receive), part_text(after.pool)] + [
+                 counters_text(numbers) for numbers in after[5:]]
     return " ".join("=" if old == new else text
                     for old, new, text in zip(before[1:], after[1:], texts))
 
@@ -125,13 +146,13 @@ def sheet_text(before, after):
 
 def table_answer_text(call):
     """The answer of a call over tables and all lent memory after it."""
-    if call.name == "share":
-        answer, after = tables.lent_share(call.parts, *call.arguments)
+    if call.name in SHARE_CALLS:
+        answer, after = SHARE_CALLS[call.name](call.parts, *call.arguments)
         text = "%02X %d" % answer
-    elif call.name == "sheet":
+    elif call.name in SHEET_CALLS:
         pointer, length = call.arguments
         paper = [UNTOUCHED_COUNT] * length
-        number, written, after = tables.lent_sheet_into(call.parts, pointer, paper)
+        number, written, after = SHEET_CALLS[call.name](call.parts, pointer, paper)
         text = "%02X %s" % (number, sheet_text(paper, written))
     else:
         answer, after = PLAIN_CALLS[call.name](call.parts, *call.arguments)

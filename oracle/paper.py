@@ -67,3 +67,33 @@ class Machine:
     def delete(self, s, gp):
         self.rec_t.remove((s, gp))
         return self.post(DEC, s, self.owners[gp], gp)
+
+
+class LinkedMachine(Machine):
+    """The same machine over links that deliver in order: no number, and no condition on INC_DECs.
+
+    A link is the list of what is on its way from one site to another, oldest first. Each message there is an
+    object of its own, so that two alike are told apart.
+    """
+
+    def __init__(self, owners):
+        super().__init__(owners)
+        self.links = {}
+
+    def post(self, *message):
+        self.links.setdefault(message[1:3], []).append(list(message))
+        return super().post(*message)
+
+    def newest(self, message):
+        """The message that was just posted, as it stands on its link."""
+        return self.links[message[1:3]][-1]
+
+    def is_oldest(self, on_link):
+        return self.links[tuple(on_link[1:3])][0] is on_link
+
+    def may_receive(self, on_link):
+        return self.is_oldest(on_link) and (on_link[0] != COPY or on_link[1] != on_link[2])
+
+    def receive(self, on_link):
+        self.links[tuple(on_link[1:3])].pop(0)
+        return super().receive(tuple(on_link))

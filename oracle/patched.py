@@ -12,7 +12,8 @@ Patch = namedtuple("Patch", "module old new")
 
 FOLDER = pathlib.Path(__file__).resolve().parent
 # In an order in which each needs only those before it.
-MODULES = ("refusals", "desk", "tables", "book", "lines", "program", "lent_text")
+MODULES = ("refusals", "desk", "tables", "book", "lines", "program", "in_order", "in_order_tables",
+           "lent_text")
 
 
 def mutant(wrong, module, old, new, *more):

@@ -34,6 +34,9 @@ class Walk:
         self.phase = self.rng.choice(PHASES)
         self.patience = self.rng.choice([0, 2, 4])
 
+    def why_no_receive(self, slot):
+        return machine.why_no_receive(self.desk, slot)
+
     def some_of(self, names, most):
         return self.rng.sample(names, min(len(names), self.rng.randint(2, most)))
 
@@ -83,7 +86,7 @@ class Walk:
             slot = self.rng.choice(occupied)
             if self.desk.slots[slot].kind == machine.INC_DEC and attempt < self.patience:
                 continue
-            if machine.why_no_receive(self.desk, slot) == 0:
+            if self.why_no_receive(slot) == 0:
                 return Receive(slot)
         return None
 
@@ -116,7 +119,7 @@ class Walk:
     def any_slot(self):
         """A slot that is held back, if one is met, or else any."""
         for slot in self.some_of(self.occupied_slots() or [0], TRIES):
-            if machine.why_no_receive(self.desk, slot):
+            if self.why_no_receive(slot):
                 return slot
         return self.a_slot()
 

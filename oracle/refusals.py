@@ -1,4 +1,4 @@
-"""The refusal numbers of document 01, 'Why a call is turned down'."""
+"""The refusal numbers of document 01, 'Why a call is turned down', and of document 02."""
 
 ACCEPTED = 0
 BAD_SHAPE = 1
@@ -21,6 +21,8 @@ TOO_LONG = 17
 BAD_BOOK = 18
 TWINS = 19
 NOT_LISTED = 20
+# Document 02, Three.
+OUT_OF_ORDER = 21
 
 
 def first_refusal(*tests):

@@ -8,6 +8,7 @@ import time
 from collections import Counter
 
 import claims
+import in_order_claims
 import lent_text
 import paper
 import program
@@ -16,6 +17,7 @@ import tables
 from cases_store import stored_cases
 from lent_tables import random_table_call
 from lines import Delete, MakeCopy, Receive
+from ordered_calls import random_ordered_call
 from random_runs import numbered_input, rng_for
 
 LENT_CALLS_A_ROUND = 100
@@ -103,9 +105,13 @@ def one_round(seed, number, command, counts, tally):
     try_input("damaged input %d" % number, text, program.run(text), command, counts)
     claims.random_run(seed, number, tally)
     counts["claim runs"] += 1
+    in_order_claims.random_run(seed, number, tally)
+    counts["claim runs in order"] += 1
     for _ in range(LENT_CALLS_A_ROUND):
         try_lent_call(random_table_call(rng), tally)
+        in_order_claims.check_ordered_call(random_ordered_call(rng), tally)
         counts["lent calls"] += 1
+        counts["calls in order"] += 1
 
 
 def soak(seconds, seed):

@@ -6,10 +6,12 @@ import catch
 import cases_store
 import claims
 import every_state
+import in_order_claims
 import lent_tables
 import lent_text
 import line_calls
 import lines
+import ordered_calls
 import program
 import random_runs
 import second
@@ -22,8 +24,9 @@ from lent_fixed import tables_of
 from lines import Ask, Delete, Ended, MakeCopy, Reader, Receive, Refusal
 from patched import Mutant, load
 
-REDUCED = dict(inputs=3, lent_calls=590, line_calls=3700)
+REDUCED = dict(inputs=3, lent_calls=590, line_calls=3700, ordered_calls=1000)
 CLAIM_SEEDS = (1, 2, 3)
+IN_ORDER_STATES = 3653
 
 
 def test_fourteen():
@@ -228,9 +231,13 @@ def fails(claim_fails, check, *arguments):
         return True
 
 
+def mutant_named(name):
+    return next(found for found in catch.all_mutants() if found.wrong == name)
+
+
 def claims_fail_on(name):
     """Whether the claims fail on a wrong desk of that name, both on runs and in small desks."""
-    mutant = next(found for found in catch.all_mutants() if found.wrong == name)
+    mutant = mutant_named(name)
     modules = load(mutant.patches, ("paper", "random_runs", "claims", "every_state"))
     wrong, small = modules["claims"], modules["every_state"]
     return (fails(wrong.ClaimFails, wrong.check_claims, "wrong", 20)
@@ -247,6 +254,70 @@ def test_claims_fail():
                  "sheet entered at the sender, as before request Two", "sheet with INC_DECs at their sender",
                  "sheet with COPYs at their receiver", "sheet with DECs at their sender"):
         yield name, claims_fail_on(name)
+
+
+def test_in_order():
+    """Document 02, Three: base 9 and here 0; base 0 and here 21; numbers that wrap; 21 before 4 and 10."""
+    def played(lent, *calls):
+        given = []
+        for call in calls:
+            answer, lent = lent_text.PLAIN_CALLS[ordered_calls.CALL_NAMES[type(call)]](lent, *call)
+            given.append(answer.number)
+        return given, lent
+    calls = [lines.call_of_line(line) for line in (
+        b"01000100", b"02000000", b"01000200", b"02000000", b"03010000", b"01020100", b"02000100")]
+    given, lent = played(ordered_calls.opened(3, [0], 4), *calls)
+    yield "slots", lent.pool == bytes.fromhex("0201000000000003010002000001") + bytes(14) and not any(given)
+    yield "here 0", played(lent, Receive(0))[0] == [0]
+    yield "base 9", program.run(whole_lines("03000400", *(lines.line_of_call(call).decode() for call in calls),
+                                            "02000000")).split(b"\n")[-2][:2] == b"09"
+    pair = ordered_calls.opened(2, [0, 0], 4)
+    yield "here 21", played(pair, MakeCopy(0, 1, 0), MakeCopy(0, 1, 1), Receive(1))[0] == [0, 0, 21]
+    yield "base 0", program.run(b"0200040000\n01000100\n01000101\n02000100\n").split(b"\n")[-2][:2] == b"00"
+    most = ordered_calls.ordered_of(2, [0], slots=[ordered_calls.NO_SLOT] * 2, to_post={(0, 1): 65535},
+                                    to_receive={(0, 1): 65535})
+    given, lent = played(most, MakeCopy(0, 1, 0), MakeCopy(0, 1, 0))
+    yield "wrapped", lent.pool == bytes.fromhex("0100010000FFFF01000100000000") and lent.to_post == (0, 1, 0, 0)
+    yield "received", played(lent, Receive(1), Receive(0), Receive(1))[0] == [21, 0, 0]
+    for message, following, number in (((COPY, 1, 1, 0, 0, 5), 0, 21), ((COPY, 1, 1, 0, 0, 5), 5, 4),
+                                       ((DEC, 1, 0, 0, 0, 5), 4, 21), ((DEC, 1, 0, 0, 0, 5), 5, 10)):
+        lent = ordered_calls.ordered_of(2, [0], slots=[message], to_receive={message[1:3]: following})
+        yield "number %d" % number, played(lent, Receive(0)) == ([number], lent)
+
+
+def test_in_order_calls():
+    """Calls in order come back the same from their text, many wrap, and they are the base's but for 9 and 21."""
+    wraps, tally = 0, claims.Tally()
+    for number, line in enumerate(ordered_calls.ordered_lines("test", 2500)):
+        question, answer = line.split(" > ")
+        yield "call %d" % number, lent_text.judge(line) is None
+        call = lent_text.read_question(question)
+        in_order_claims.check_ordered_call(call, tally)
+        after = [before if text == "=" else lent_text.read_counters(text)
+                 for before, text in zip(call.parts[5:], answer.split(" ")[-2:])]
+        wraps += any((old, new) == (65535, 0) for table, numbers in zip(call.parts[5:], after)
+                     for old, new in zip(table, numbers)) and call.name != "ordered_open"
+    yield "wraps", wraps > 50
+    yield "against the base", tally.checks["as the base"] > 1000 and tally.checks["21 where it is due"] > 1000
+
+
+def test_in_order_claims():
+    """The claims of the in-order variant hold on a few seeds and in every state of small desks."""
+    for seed in CLAIM_SEEDS:
+        yield "seed %d" % seed, sum(in_order_claims.check_claims(seed, 8).checks.values()) > 50000
+    yield "all states", in_order_claims.walk_small_desks(claims.Tally()) == IN_ORDER_STATES
+
+
+def test_in_order_claims_fail():
+    """These claims, too, fail on wrong desks."""
+    for name in ("21 is never given", "21 for DECs only", "no 21 for INC_DECs", "Held tested besides", "pair (b, a)",
+                 "a numbering by pointer", "21 advances the next number", "a reply is unnumbered",
+                 "a reply is numbered by the handled message's pair", "after 65,535 comes 1",
+                 "a post does not advance"):
+        modules = load(mutant_named("in order: " + name).patches,
+                       ("paper", "random_runs", "claims", "ordered_calls", "in_order_claims"))
+        wrong = modules["in_order_claims"]
+        yield name, fails(Exception, wrong.check_claims, "wrong", 12)
 
 
 def test_mutants():

@@ -247,7 +247,8 @@ def sheets():
                "                row[message.receiver] = row.get(message.receiver, 0) + 1\n"),
         mutant("sheet with the owner's column left 0", "desk",
                "        if message.pointer == pointer:\n            row",
-               "        if message.pointer == pointer and not desk.owns(column_of(message), pointer):\n            row"),
+               "        if message.pointer == pointer and not desk.owns(column_of(message), pointer):\n"
+               "            row"),
         mutant("sheet with the rows of COPY and DEC exchanged", "desk", rows,
                "for kind in (DEC, COPY, INC_DEC) for site"),
         mutant("sheet with the rows of DEC and INC_DEC exchanged", "desk", rows,

@@ -153,6 +153,6 @@ module _ {D : Type 0} (L : Layout D) where
     pub call-exactly : (d : D) (c : Call) → FirstOf (rowsOf L earlyRows d c) (step L d c .answer .number)
     unfolding step makeCopy receive delete ask copied received deleted asked
     call-exactly d (MakeCopy from to p) = numbered _ (copyNumber L d from to p) d _ (copy-exactly d from to p) refl
-    call-exactly d (Receive slot) = numbered _ (receiveNumber L d slot) d _ (receive-exactly d slot) refl
+    call-exactly d (Receive slot) = numbered _ (receiveNumber L d slot) _ _ (receive-exactly d slot) refl
     call-exactly d (Delete site p) = numbered _ (deleteNumber L d site p) d _ (delete-exactly d site p) refl
     call-exactly d (Ask site p) = numbered _ (askNumber L d site p) d _ (ask-exactly d site p) refl

@@ -71,11 +71,12 @@ byte-cells = record {
   sets = λ S G r few e. byte-cells-set S G r (eqb-true _ _ e);
 }
 
--- ---- the pool of document 01
-held-slot-good : (S G : ℕ) (pool : List ℕ) → allSlotsGood 5 S G pool ≡ true → (i : ℕ) → i < slotsOf 5 pool → atSlot 5 (slotGood S G) pool i ≡ true
+-- ---- a slot of a good pool
+pub slot-of-good : (w S G : ℕ) (pool : List ℕ) → allSlotsGood w S G pool ≡ true → (i : ℕ) → i < slotsOf w pool → atSlot w (slotGood S G) pool i ≡ true
 unfolding allSlotsGood
-held-slot-good S G pool e i li = every-at (atSlot 5 (slotGood S G) pool) (slotsOf 5 pool) i li e
+slot-of-good w S G pool e i li = every-at (atSlot w (slotGood S G) pool) (slotsOf w pool) i li e
 
+-- ---- the pool of document 01
 held-clears : (S G : ℕ) (pool : List ℕ) → poolGood 5 (length pool) ≡ true → PoolReads heldSlots S G (slotsOf 5 pool) (heldSlots .cleared pool) (λ i. Nothing)
 unfolding messageOf
 held-clears S G pool e = record {
@@ -97,8 +98,8 @@ held-posts S G pool e good i m li w = record {
 pub held-slots : LawfulPool heldSlots
 held-slots = record {
   few-slots = λ S pool e. leb-true _ _ (and-both (eqb (length pool % 5) 0) (leb (length pool / 5) 1024) e .1);
-  inside = λ S G pool e i li. good-slot-inside _ _ _ _ _ _ _ (held-slot-good S G pool e i li);
-  empties = λ S G pool e i li. good-slot-empty _ _ _ _ _ _ _ (held-slot-good S G pool e i li);
+  inside = λ S G pool e i li. good-slot-inside _ _ _ _ _ _ _ (slot-of-good 5 S G pool e i li);
+  empties = λ S G pool e i li. good-slot-empty _ _ _ _ _ _ _ (slot-of-good 5 S G pool e i li);
   clears = held-clears;
   posts = held-posts;
   handles = λ S G pool e good i li. record { long = e; good = good; as-many = refl; as-messages = λ j lj. refl };

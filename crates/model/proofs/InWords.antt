@@ -1,5 +1,5 @@
 -- Rows 1 and 2 in words: when lent parts of document 01 are well shaped, and when their tables are good.
-use Prim.Native.Nat.{ℕ, zero, suc, _*_, _/_, _%_, _<_}
+use Prim.Native.Nat.{ℕ, zero, suc, _*_, _/_, _%_, _≤_, _<_}
 use mathlib.Core.Path.{_≡_, refl}
 use mathlib.Core.Logic.{_↔_}
 use mathlib.Core.Bool.{true, _&&_}
@@ -7,9 +7,9 @@ use mathlib.Core.List.{List, []}
 use native.Mathlib.Omega.{arith}
 use lib.ListN.{length, getD, replicate, length-replicate}
 use borrow.Author.Tests.{le-leb, ltb-true, lt-ltb, eqb-true, eq-eqb}
-use Rattle.model.specs.Tables.{Desk, byteBelow, allBelow, atSlot, slotGood, slotsOf, allSlotsGood, lent, sizesGood, ownersRefusal}
+use Rattle.model.specs.Tables.{Desk, byteBelow, allBelow, atSlot, slotGood, slotsOf, allSlotsGood, lent, sizesGood, poolGood, ownersRefusal}
 use Rattle.model.specs.Calls.{openRefusal}
-use Rattle.model.specs.InWords.{Shaped, GoodSlot, no-message, a-copy, a-dec, an-inc-dec, GoodSlots, GoodTables}
+use Rattle.model.specs.InWords.{Sized, Shaped, GoodSlot, no-message, a-copy, a-dec, an-inc-dec, GoodSlots, GoodTables}
 use Rattle.model.specs.Flat.{flat}
 use Rattle.model.proofs.TestLaws.{and-both, and-true}
 use Rattle.model.proofs.QuestionLaws.{every-at, every-all}
@@ -59,18 +59,22 @@ slots-in-words w S G pool = (
   (λ h. every-all (atSlot w (slotGood S G) pool) (slotsOf w pool) (λ i l. slot-from-words _ _ _ _ _ _ _ (h i l))),
 )
 
+-- ---- sizes and slots
+pub sizes-from-words : (s g : ℕ) → Sized s g → sizesGood s g ≡ true
+sizes-from-words s g h = rw (le-leb 1 s (h .some-site), le-leb s 64 (h .few-sites), le-leb g 256 (h .few-pointers))
+
+pub pool-from-words : (w pools : ℕ) → pools % w ≡ 0 → pools / w ≤ 1024 → poolGood w pools ≡ true
+pool-from-words w pools whole few = rw (eq-eqb (pools % w) 0 whole, le-leb (pools / w) 1024 few)
+
 -- BadShape is given exactly where S is not 1 to 64, G is above 256, a length is another than S x G, or the pool is not 0 to 1,024 slots of 5 bytes.
 pub shape-in-words : (d : Desk) → (flat .shaped d ≡ true) ↔ Shaped 5 (d .S) (length (d .owners)) (length (d .send)) (length (d .receive)) (length (d .pool))
 shape-in-words d = (
   shaped (d .S) (length (d .owners)) (length (d .send)) (length (d .receive)) (length (d .pool)),
   (λ h. rw (
-    le-leb 1 (d .S) (h .sizes .some-site),
-    le-leb (d .S) 64 (h .sizes .few-sites),
-    le-leb (length (d .owners)) 256 (h .sizes .few-pointers),
+    sizes-from-words (d .S) (length (d .owners)) (h .sizes),
     eq-eqb (length (d .send)) (d .S * length (d .owners)) (h .send-length),
     eq-eqb (length (d .receive)) (d .S * length (d .owners)) (h .receive-length),
-    eq-eqb (length (d .pool) % 5) 0 (h .whole-slots),
-    le-leb (length (d .pool) / 5) 1024 (h .few-slots),
+    pool-from-words 5 (length (d .pool)) (h .whole-slots) (h .few-slots),
   )),
 )
 

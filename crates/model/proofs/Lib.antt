@@ -44,6 +44,19 @@ pub mod EachLineOnce
 pub mod LinesExactly
 pub mod TheProgram
 pub mod TheDesk
+pub mod StampLaws
+pub mod LinkLaws
+pub mod Channels
+pub mod OrderedSlots
+pub mod OrderedLaws
+pub mod OrderedWords
+pub mod PairLaws
+pub mod OrderedRows
+pub mod OrderedHistory
+pub mod OrderedGuard
+pub mod OrderedFlight
+pub mod OrderedQueues
+pub mod TheOrderedDesk
 pub mod LineTable
 pub mod Fourteen
 pub mod RefusedLines
@@ -53,3 +66,4 @@ pub mod Edges
 pub mod EmptyCases
 pub mod RawCases
 pub mod OneOutcome
+pub mod OrderedCases
