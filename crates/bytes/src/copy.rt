@@ -1,11 +1,11 @@
 // Make copy (Document 01, The calls).
-use crate::front::front;
+use crate::counted::counted_front;
 use model::Answer;
 use model::Posted;
 use rules::answer::accepted_telling;
 use rules::answer::refused;
 use rules::refusal::copy_refusal;
-use slots::lowest::lowest_empty;
+use slots::lowest::search;
 use slots::slot::write_slot;
 use tables::place::place_of;
 ghost use mathlib.Core.Path.{_≡_};
@@ -29,13 +29,15 @@ pub fn make_copy(
 {
     let p = pointer as usize;
     let named = (from < s) & (to < s) & (p < owners.len());
-    let n = front(s, owners, &send[..], receive, &pool[..], named);
+    let tested = counted_front(s, owners, &send[..], receive, &pool[..], named);
+    let n = tested.number;
+    let empties = tested.empties;
     if n != 0 {
         return refused(n);
     }
     let at = place_of(owners.len(), from, pointer);
     let counter = send[at];
-    let found = lowest_empty(&pool[..]);
+    let found = search(&pool[..], empties);
     let slot = found.slot;
     let slots = pool.len() / 5;
     let k = copy_refusal(from, to, owners[p], receive[at], counter, slot, slots);

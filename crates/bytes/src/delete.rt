@@ -1,11 +1,11 @@
 // Delete (Document 01, The calls).
-use crate::front::front;
+use crate::counted::counted_front;
 use model::Answer;
 use model::Posted;
 use rules::answer::accepted_telling;
 use rules::answer::refused;
 use rules::refusal::delete_refusal;
-use slots::lowest::lowest_empty;
+use slots::lowest::search;
 use slots::slot::write_slot;
 use tables::place::place_of;
 ghost use mathlib.Core.Path.{_≡_};
@@ -28,13 +28,15 @@ pub fn delete(
 {
     let p = pointer as usize;
     let named = (site < s) & (p < owners.len());
-    let n = front(s, owners, send, &receive[..], &pool[..], named);
+    let tested = counted_front(s, owners, send, &receive[..], &pool[..], named);
+    let n = tested.number;
+    let empties = tested.empties;
     if n != 0 {
         return refused(n);
     }
     let at = place_of(owners.len(), site, pointer);
     let owner = owners[p];
-    let found = lowest_empty(&pool[..]);
+    let found = search(&pool[..], empties);
     let slot = found.slot;
     let slots = pool.len() / 5;
     let k = delete_refusal(site, owner, receive[at], send[at], slot, slots);

@@ -4,19 +4,34 @@ use scan::bytes::all_bits;
 use scan::word::all_slots_good;
 use tables::shape::shape_good;
 ghost use mathlib.Core.Path.{_≡_};
-ghost use Rattle.model.specs.Tables.{lent};
+ghost use mathlib.Core.Bool.{_&&_, not};
+ghost use lib.ListN.{length};
+ghost use Rattle.model.specs.Refusals.{BadShape, BadTable, _when_, _orElse_};
+ghost use Rattle.model.specs.Tables.{lent, shapeGood, allBelow};
 ghost use Rattle.model.specs.Calls.{lentRefusal};
 ghost use Rattle.model.specs.Flat.{flat};
+
+// 1, 2 of all that is lent but the slots.
+pub(crate) fn tables_refusal(s: u8, owners: &[u8], send: &[u16], receive: &[u8], pool: &[u8]) -> u8
+    ensures { λ r. ⌜ r ≡ BadShape when not (shapeGood s (length (now (owners .entry))) (length (now (send .entry))) (length (now (receive .entry))) (length (now (pool .entry))))
+        orElse BadTable when not (allBelow s (now (owners .entry)) && allBelow 2 (now (receive .entry))) ⌝ }
+{
+    if !shape_good(s, owners.len(), send.len(), receive.len(), pool.len()) {
+        return 1;
+    }
+    if all_below(owners, s) & all_bits(receive) {
+        return 0;
+    }
+    2
+}
 
 // 1, 2 of all that is lent: the tests that begin every call.
 pub fn lent_refusal(s: u8, owners: &[u8], send: &[u16], receive: &[u8], pool: &[u8]) -> u8
     ensures { λ r. ⌜ r ≡ lentRefusal flat (lent s (now (owners .entry)) (now (send .entry)) (now (receive .entry)) (now (pool .entry))) ⌝ }
 {
-    if !shape_good(s, owners.len(), send.len(), receive.len(), pool.len()) {
-        return 1;
-    }
-    if !(all_below(owners, s) & all_bits(receive)) {
-        return 2;
+    let n = tables_refusal(s, owners, send, receive, pool);
+    if n != 0 {
+        return n;
     }
     if all_slots_good(s, owners.len(), pool) {
         return 0;

@@ -5,25 +5,30 @@ use mathlib.Core.Logic.{_≢_, _↔_, inl, inr}
 use mathlib.Core.Bool.{Bool, true, false, cond}
 use mathlib.Core.List.{List, [], _∷_, _++_}
 use native.Mathlib.Omega.{arith}
+use lib.Dec.{ltb}
+use lib.ListN.{length}
+use lib.Seq.{sets}
 use Rattle.model.specs.declared.Posted.{Posted}
 use Rattle.model.specs.declared.Posted.the-variants.{Copy, Dec as Decr, IncDec, Nothing}
 use Rattle.model.specs.declared.Answer.{Answer}
 use Rattle.model.specs.declared.Call.{Call}
 use Rattle.model.specs.declared.Call.the-variants.{MakeCopy, Receive, Delete, Ask}
-use Rattle.model.specs.Refusals.{PoolFull}
+use Rattle.model.specs.Refusals.{BadShape, PoolFull, _when_}
 use Rattle.model.specs.Questions.{howMany, total}
 use Rattle.model.specs.Messages.{isNothing}
-use Rattle.model.specs.Answers.{refused, Outcome, unless}
+use Rattle.model.specs.Answers.{accepted, refused, Outcome, unless}
 use Rattle.model.specs.Layout.{Layout}
 use Rattle.model.specs.Calls.{lentRefusal, emptySlots, lowestEmpty, openRefusal, openDesk, copyNumber, copied, makeCopy, receiveNumber, received, receive, deleteNumber, deleted, delete, askNumber, asked, ask, step}
 use Rattle.model.specs.Laws.{Frame, withSlot, Reads, Laws}
+use Rattle.model.specs.Lines.{lineOf, writeCall}
 use Rattle.model.specs.Transcript.{answerLine}
-use Rattle.model.specs.Demands.{Row, _because_, FirstOf, NoSlotEmpty, Tells, lentRows, copyRowsWhen, deleteRowsWhen}
+use Rattle.model.specs.Demands.{Row, _because_, FirstOf, NoSlotEmpty, lentRows, copyRowsWhen, deleteRowsWhen}
 use Rattle.model.proofs.TestLaws.{true-not-false}
 use Rattle.model.proofs.PoolLaws.{total-same, total-of-zeros, term-in-total, total-with-slot}
 use Rattle.model.proofs.Exactly.{number-of-unless, copy-exactly, delete-exactly}
 use Rattle.model.proofs.Accepted.{copy-accepted, delete-accepted}
 use Rattle.model.proofs.ReadsLaws.{copied-reads, deleted-reads}
+use Rattle.model.proofs.OpeningLaws.{opening-leaves}
 use Rattle.model.proofs.Demand2.{accepted-as, copy-answer, delete-answer}
 
 -- ---- how many
@@ -72,6 +77,15 @@ pub line-tells-no-count : (a : Answer) (n : ℕ) → answerLine (record { number
 unfolding answerLine
 line-tells-no-count a n = refl
 
+-- The writer of a line tells none.
+pub write-tells-nothing : (text : List ℕ) (call : Call) → writeCall text call .answer .empty ≡ 0
+unfolding writeCall
+write-tells-nothing text call = go (BadShape when ltb (length text) 9)
+  where
+    go : (n : ℕ) → unless n text (record { answer = accepted 0 Nothing; desk = sets text 0 (lineOf call) }) .answer .empty ≡ 0
+    go zero = refl
+    go (suc n) = refl
+
 -- 1 where there is no message
 abbrev weight : Posted → ℕ
 weight m = cond (isNothing m) 1 0
@@ -110,12 +124,13 @@ module _ {D : Type 0} (L : Layout D) where
   untold-refusal zero d o e given = absurd (given e)
   untold-refusal (suc n) d o e given = refl
 
-  pub others-tell-nothing : (d : D) (c : Call) → (Tells c → ⊥) → step L d c .answer .empty ≡ 0
-  unfolding step receive received ask asked
-  others-tell-nothing d (MakeCopy from to p) no-teller = absurd (no-teller tt)
-  others-tell-nothing d (Receive slot) no-teller = untold (receiveNumber L d slot) d (received L d slot) refl
-  others-tell-nothing d (Delete site p) no-teller = absurd (no-teller tt)
-  others-tell-nothing d (Ask site p) no-teller = untold (askNumber L d site p) d (asked L d p) refl
+  pub receive-tells-nothing : (d : D) (slot : ℕ) → step L d (Receive slot) .answer .empty ≡ 0
+  unfolding step receive received
+  receive-tells-nothing d slot = untold (receiveNumber L d slot) d (received L d slot) refl
+
+  pub ask-tells-nothing : (d : D) (site p : ℕ) → step L d (Ask site p) .answer .empty ≡ 0
+  unfolding step ask asked
+  ask-tells-nothing d site p = untold (askNumber L d site p) d (asked L d p) refl
 
   pub refusals-tell-nothing : (d : D) (c : Call) → step L d c .answer .number ≢ 0 → step L d c .answer .empty ≡ 0
   unfolding step makeCopy receive delete ask copied received deleted asked
@@ -129,7 +144,7 @@ module _ {D : Type 0} (L : Layout D) where
   opening-tells-nothing d = untold (openRefusal L d) d _ refl
 
 module _ {D : Type 0} (L : Layout D) (W : Laws L) where
-  open Layout L using (slots, empty, message, shaped, owned, cleared)
+  open Layout L using (slots, empty, message)
 
   -- the empty slots are those that hold no message
   empties-by-messages : (d : D) → lentRefusal L d ≡ 0 → emptySlots L d ≡ total (slots d) (λ i. weight (message d i))
@@ -137,14 +152,15 @@ module _ {D : Type 0} (L : Layout D) (W : Laws L) where
       how-many-is-total (slots d) (empty d)
       ∙ total-same (slots d) (λ i. cond (empty d i) 1 0) (λ i. weight (message d i)) (λ i l. ap (λ (b : Bool). cond {A = ℕ} b 1 0) (W .empties d good i l))
 
-  -- After an opening every slot is empty.
-  pub all-empty-after-opening : (d : D) → shaped d ≡ true → owned d ≡ true → emptySlots L (cleared d) ≡ slots d
-  all-empty-after-opening d e o =
-      let r = W .clears d e o in
-      let as-many : slots (cleared d) ≡ slots d = ap (λ (f : Frame). f .slots) (r .same) in
-      empties-by-messages (cleared d) (r .good)
-      ∙ subst (λ n. total n (λ i. weight (message (cleared d) i)) ≡ slots d) (sym as-many)
-      (total-same (slots d) (λ i. weight (message (cleared d) i)) (λ i. 1) (λ i l. ap weight (r .as-messages i l)) ∙ total-of-ones (slots d))
+  -- After an accepted opening every slot is empty.
+  pub all-empty-after-opening : (d : D) → openDesk L d .answer .number ≡ 0 → emptySlots L (openDesk L d .desk) ≡ slots d
+  all-empty-after-opening d e =
+      let o = openDesk L d .desk in
+      let r = opening-leaves L W d e in
+      let as-many : slots o ≡ slots d = ap (λ (f : Frame). f .slots) (r .same) in
+      empties-by-messages o (r .good)
+      ∙ subst (λ n. total n (λ i. weight (message o i)) ≡ slots d) (sym as-many)
+      (total-same (slots d) (λ i. weight (message o i)) (λ i. 1) (λ i l. ap weight (r .as-messages i l)) ∙ total-of-ones (slots d))
 
   -- memory that reads as d's with a message in a slot that had none has one empty slot less
   one-less : (d e : D) (counters cells : ℕ → ℕ → ℕ) (i : ℕ) (m : Posted) → lentRefusal L d ≡ 0 → i < slots d → message d i ≡ Nothing → isNothing m ≡ false

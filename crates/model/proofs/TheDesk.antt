@@ -12,6 +12,7 @@ use Rattle.moreau.specs.Transformers.{assign, MayCopy, MayReceive, MayDelete}
 use Rattle.moreau.specs.Transitions.{PaperGuard, Reachable}
 use Rattle.moreau.proofs.Reached.{standing-lasts, reachable-lasts}
 use Rattle.model.specs.declared.Posted.the-variants.{Copy, Dec as Decr, IncDec, Nothing}
+use Rattle.model.specs.declared.Answer.{Answer}
 use Rattle.model.specs.declared.Call.{Call}
 use Rattle.model.specs.declared.Call.the-variants.{MakeCopy, Receive, Delete, Ask}
 use Rattle.model.specs.declared.Read.{Read}
@@ -22,15 +23,15 @@ use Rattle.model.specs.Answers.{accepted, acceptedTelling, refused}
 use Rattle.model.specs.Calls.{heldRefusal, lowestEmpty, emptySlots, lentRefusal, openDesk, replied, step, counterThere, cellThere}
 use Rattle.model.specs.Messages.{receiver, pointerOf, counterAfter, cellAfter}
 use Rattle.model.specs.Laws.{withSlot, Reads}
-use Rattle.model.specs.Survey.{controls, entryOf, inFlight, sharePlus, shareMinus, shareOf, sharesOfOthers, share, sheetNumber, sheet}
-use Rattle.model.specs.Tables.{Desk}
+use Rattle.model.specs.Survey.{controls, entered, entryOf, inFlight, sharePlus, shareMinus, shareOf, sharesOfOthers, share, sheetNumber, sheet}
+use Rattle.model.specs.Tables.{Desk, searched}
 use Rattle.model.specs.InWords.{Shaped, GoodTables}
 use Rattle.model.specs.Flat.{flat}
 use Rattle.model.specs.Lines.{digitsOf, bytesOf, lineOf, writeCall, readLine, refusalIn, linesOf, nextAt}
 use Rattle.model.specs.Transcript.{answerLine, opening, obeyed, deskBefore, answerLineAt, transcript}
 use Rattle.model.specs.Fields.{FieldsFit}
 use Rattle.model.specs.Meaning.{meant, meaning}
-use Rattle.model.specs.Demands.{FirstOf, _among_, listed, NoSlotEmpty, Tells, openRows, lentRows, copyRowsWhen, deleteRowsWhen, heldRows, rowsOf, TellsEarly, shareRows, sheetRows, LowestEmpty, names, MakesCopy, Receives, Deletes, Reached, Quiet, look}
+use Rattle.model.specs.Demands.{FirstOf, _among_, listed, NoSlotEmpty, openRows, lentRows, copyRowsWhen, deleteRowsWhen, heldRows, rowsOf, TellsEarly, shareRows, sheetRows, LowestEmpty, names, MakesCopy, Receives, Deletes, Reached, Quiet, look}
 use Rattle.model.specs.LineRows.{lineRows, openingLineRows, AsWritten}
 use Rattle.model.proofs.FlatLaws.{flat-laws}
 use Rattle.model.proofs.InWords as in-words
@@ -65,7 +66,7 @@ stands : {d : Desk} → Reached flat d → Stands flat d
 stands = reached-laws.reached-means flat flat-laws standing-lasts (λ d r s slot. reached-laws.guarded-weakly flat flat-laws d slot (reached-laws.guarded-by-held flat held d slot))
 
 -- ---- demand 1
--- A refused call leaves all lent memory as it was, with value 0 and no message.
+-- A refused call leaves all lent memory as it was, with value 0, no count and no message.
 pub refused-leaves-all : (d : Desk) (c : Call) → step flat d c .answer .number ≢ 0 → step flat d c ≡ record { answer = refused (step flat d c .answer .number); desk = d }
 refused-leaves-all = demand-1.refused-leaves-all flat
 
@@ -360,14 +361,30 @@ pub delete-tells-some : (d : Desk) (site p : ℕ) → step flat d (Delete site p
 delete-tells-some = empty-slots.delete-tells-some flat flat-laws
 
 -- No other answer tells a count: not another call's, not a refusal's, not an opening's.
-pub others-tell-nothing : (d : Desk) (c : Call) → (Tells c → ⊥) → step flat d c .answer .empty ≡ 0
-others-tell-nothing = empty-slots.others-tell-nothing flat
+pub receive-tells-nothing : (d : Desk) (slot : ℕ) → step flat d (Receive slot) .answer .empty ≡ 0
+receive-tells-nothing = empty-slots.receive-tells-nothing flat
+
+pub ask-tells-nothing : (d : Desk) (site p : ℕ) → step flat d (Ask site p) .answer .empty ≡ 0
+ask-tells-nothing = empty-slots.ask-tells-nothing flat
 
 pub refusals-tell-nothing : (d : Desk) (c : Call) → step flat d c .answer .number ≢ 0 → step flat d c .answer .empty ≡ 0
 refusals-tell-nothing = empty-slots.refusals-tell-nothing flat
 
 pub opening-tells-nothing : (d : Desk) → openDesk flat d .answer .empty ≡ 0
 opening-tells-nothing = empty-slots.opening-tells-nothing flat
+
+pub write-tells-nothing : (text : List ℕ) (call : Call) → writeCall text call .answer .empty ≡ 0
+write-tells-nothing = empty-slots.write-tells-nothing
+
+-- After an accepted opening all slots are empty. The search that the code makes is of the slot and of the count; the answer line of `desk` is the same whatever count is told.
+pub all-empty-after-opening : (d : Desk) → openDesk flat d .answer .number ≡ 0 → emptySlots flat (openDesk flat d .desk) ≡ flat .slots d
+all-empty-after-opening = empty-slots.all-empty-after-opening flat flat-laws
+
+pub search-finds : (d : Desk) → searched 5 (d .pool) ≡ record { slot = lowestEmpty flat d; count = emptySlots flat d }
+search-finds d = refl
+
+pub line-tells-no-count : (a : Answer) (n : ℕ) → answerLine (record { number = a .number; value = a .value; empty = n; posted = a .posted }) ≡ answerLine a
+line-tells-no-count = empty-slots.line-tells-no-count
 
 -- The count is 0 just where no slot is empty; so 7 is given exactly where no earlier reason holds and the count is 0.
 pub full-when-count-zero : (d : Desk) → NoSlotEmpty flat d ↔ (emptySlots flat d ≡ 0)
@@ -390,6 +407,9 @@ pub column-adds-up-to-counter : {d : Desk} → Reached flat d → (p : ℕ) → 
     → entryOf (sheet flat d p) 0 s + entryOf (sheet flat d p) 1 s + entryOf (sheet flat d p) 2 s ≡ flat .counter d s p
 column-adds-up-to-counter r = sheet-sums.column-adds-up-to-counter flat flat-laws (stands r)
 
--- On all good tables each entry is at most the slot count.
+-- On all good tables each entry is the number of messages of its kind, for that pointer, in its column: at most the slot count.
+pub entry-is-count : (d : Desk) (p : ℕ) → sheetNumber flat d p ≡ 0 → (row site : ℕ) → row < 3 → site < 64 → entryOf (sheet flat d p) row site ≡ inFlight flat d (entered p (row + 1) site)
+entry-is-count = sheet-sums.entry-is-count flat
+
 pub entry-at-most-slots : (d : Desk) (p : ℕ) → sheetNumber flat d p ≡ 0 → (row site : ℕ) → row < 3 → site < 64 → entryOf (sheet flat d p) row site ≤ flat .slots d
 entry-at-most-slots = sheet-sums.entry-at-most-slots flat

@@ -23,7 +23,7 @@ use Rattle.model.specs.Messages.{receiver, pointerOf, counterAfter, cell
 use Rattle.model.specs.Laws.{withSlot, Reads}
 use Rattle.model.specs.Survey.{controls, entryOf, inFlight, sharePlus, shareMinus, shareOf, sharesOfOthers, share, sheetNumber, sheet}
 use Rattle.model.specs.Meaning.{meant, meaning}
-use Rattle.model.specs.Demands.{FirstOf, _among_, NoSlotEmpty, Tells, openRows, lentRows, copyRowsWhen, deleteRowsWhen, rowsOf, shareRows, sheetRows, LowestEmpty, names, MakesCopy, Receives, Deletes, Reached, Quiet, look}
+use Rattle.model.specs.Demands.{FirstOf, _among_, NoSlotEmpty, openRows, lentRows, copyRowsWhen, deleteRowsWhen, rowsOf, shareRows, sheetRows, LowestEmpty, names, MakesCopy, Receives, Deletes, Reached, Quiet, look}
 use Rattle.model.specs.Ordered.{OrderedDesk, ordered}
 use Rattle.model.specs.InOrder.{ShapedInOrder, GoodTablesInOrder, numberOf, nextToPost, nextToReceive, nextFor, AtNext, orderRows, listedInOrder, onLink, Numbers, before, Queued}
 use Rattle.model.proofs.OpeningLaws as opening-laws
@@ -344,8 +344,11 @@ pub delete-tells-some : (d : OrderedDesk) (site p : ℕ) → step ordered d (Del
 delete-tells-some = empty-slots.delete-tells-some ordered ordered-laws
 
 -- No other answer tells a count: not another call's, not a refusal's, not an opening's.
-pub others-tell-nothing : (d : OrderedDesk) (c : Call) → (Tells c → ⊥) → step ordered d c .answer .empty ≡ 0
-others-tell-nothing = empty-slots.others-tell-nothing ordered
+pub receive-tells-nothing : (d : OrderedDesk) (slot : ℕ) → step ordered d (Receive slot) .answer .empty ≡ 0
+receive-tells-nothing = empty-slots.receive-tells-nothing ordered
+
+pub ask-tells-nothing : (d : OrderedDesk) (site p : ℕ) → step ordered d (Ask site p) .answer .empty ≡ 0
+ask-tells-nothing = empty-slots.ask-tells-nothing ordered
 
 pub refusals-tell-nothing : (d : OrderedDesk) (c : Call) → step ordered d c .answer .number ≢ 0 → step ordered d c .answer .empty ≡ 0
 refusals-tell-nothing = empty-slots.refusals-tell-nothing ordered

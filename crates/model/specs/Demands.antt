@@ -60,13 +60,6 @@ pub data ReachedFrom {D Move : Type 0} (Start : D → Type 0) (after : D → Mov
   begins : {d : D} → Start d → ReachedFrom Start after d
   moves : {d : D} → ReachedFrom Start after d → (m : Move) → ReachedFrom Start after (after d m)
 
--- make copy and delete tell how many slots are empty (Document 02, One)
-abbrev pub Tells : Call → Type 0
-Tells (MakeCopy from to p) = Unit {0}
-Tells (Receive slot) = ⊥
-Tells (Delete site p) = Unit {0}
-Tells (Ask site p) = ⊥
-
 module _ {D : Type 0} (L : Layout D) where
   open Layout L using (sites, pointers, owner, counter, cell, slots, empty, message, shaped, owned, sound, early)
 

@@ -3,4 +3,5 @@ pub mod ByteLaws
 pub mod BitLaws
 pub mod FieldLaws
 pub mod WordLaws
+pub mod CountedLaws
 pub mod EightLaws

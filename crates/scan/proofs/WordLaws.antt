@@ -11,10 +11,10 @@ use mir.Syntax.{w8}
 use mir.Val.{Fits}
 use borrow.Author.Tests.{eqb-true, eq-eqb, ne-eqb, ltb-true, lt-ltb, lt-leb}
 use Rattle.model.specs.Questions.{every}
-use Rattle.model.specs.Tables.{atSlot, slotGood}
+use Rattle.model.specs.Tables.{atSlot, slotGood, slotsOf, allSlotsGood}
 use Rattle.model.proofs.TestLaws.{same-test, true-not-false, and-both}
 use Rattle.scan.specs.Word.{packed, eight, eightAt, clear, slotMask, rooms, Roomy, wordGood}
-use Rattle.scan.proofs.FieldLaws.{seen-more, fieldsBelow, tested-below, below-tested, clear-below, below-clear}
+use Rattle.scan.proofs.FieldLaws.{fieldsBelow, tested-below, below-tested, clear-below, below-clear}
 
 -- what fields below a, b, c lack at most of their top bits
 abbrev room : ℕ → ℕ → ℕ → ℕ
@@ -101,11 +101,9 @@ module _ (pool : List ℕ) (bytes : (j : ℕ) → Fits w8 (getD pool j 0)) where
   pub slot-good : (s g i : ℕ) → s ≤ 64 → g ≤ 256 → wordGood (rooms s g) (atSlot 5 packed pool i) ≡ atSlot 5 (slotGood s g) pool i
   slot-good s g i ls lg = word-good s g _ _ _ _ (byte (i * 5 + 1)) (byte (i * 5 + 2)) (byte (i * 5 + 3)) (byte (i * 5 + 4)) _ (byte (i * 5)) ls lg
 
-  -- the last slot is seen too, and those before it
-  pub slots-last : (s g : ℕ) {room : List ℕ} → room ≡ rooms s g → s ≤ 64 → g ≤ 256 → (n i seen x : ℕ) → i + 1 ≡ n
-      → clear slotMask seen ≡ every i (λ k. wordGood room (atSlot 5 packed pool k)) → clear slotMask x ≡ wordGood room (atSlot 5 packed pool i)
-      → clear slotMask (bitOr seen x) ≡ every n (atSlot 5 (slotGood s g) pool)
-  slots-last s g {room} er ls lg n i seen x en before e =
-      seen-more slotMask _ i n seen x en before e
-      ∙ ap (λ (r : List ℕ). every n (λ k. wordGood r (atSlot 5 packed pool k))) er
-      ∙ (λ w. every n (λ k. slot-good s g k ls lg w))
+  -- every slot is good where every slot as one number is
+  pub words-good : (s g : ℕ) {room : List ℕ} → room ≡ rooms s g → s ≤ 64 → g ≤ 256 → every (slotsOf 5 pool) (λ k. wordGood room (atSlot 5 packed pool k)) ≡ allSlotsGood 5 s g pool
+  unfolding allSlotsGood
+  words-good s g {room} er ls lg =
+      let n = slotsOf 5 pool in
+      ap (λ (r : List ℕ). every n (λ k. wordGood r (atSlot 5 packed pool k))) er ∙ (λ w. every n (λ k. slot-good s g k ls lg w))

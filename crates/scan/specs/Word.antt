@@ -47,3 +47,11 @@ Roomy room = (j : ℕ) → getD room j 0 < 2199023255552
 -- the test of a slot as one number: it is clear, and with the room of its kind too
 abbrev pub wordGood : List ℕ → ℕ → Bool
 wordGood room x = clear slotMask x && clear slotMask (x + getD room (x % 4) 0)
+
+-- by kind, what a slot adds to the count of empty slots
+abbrev pub ones : List ℕ
+ones = 1 ∷ 0 ∷ 0 ∷ 0 ∷ []
+
+-- whether a slot as one number is counted as empty: the rest by 4 is the kind of a good one
+abbrev pub wordEmpty : ℕ → Bool
+wordEmpty x = eqb (x % 4) 0

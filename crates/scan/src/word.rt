@@ -4,7 +4,7 @@ ghost use Prim.Native.Nat.{_+_, _*_, _≤_, _<_};
 ghost use lib.Bits.{bitOr};
 ghost use lib.ListN.{length};
 ghost use Rattle.model.specs.Questions.{every};
-ghost use Rattle.model.specs.Tables.{atSlot, allSlotsGood};
+ghost use Rattle.model.specs.Tables.{atSlot, slotsOf, allSlotsGood};
 ghost use Rattle.scan.specs.Word.{packed, eight, eightAt, clear, slotMask, rooms, Roomy, wordGood};
 
 // Five fields as one number, the first lowest.
@@ -62,7 +62,7 @@ pub(crate) fn eight_at(bytes: &[u8], at: usize) -> u64
 }
 
 // A slot as one number, where three bytes follow it: eight bytes are read, and the slot's five kept.
-fn word_within(pool: &[u8], slot: usize) -> u64
+pub(crate) fn word_within(pool: &[u8], slot: usize) -> u64
     requires { ⌜ slot * 5 + 8 ≤ length (now pool) ⌝ }
     ensures { λ r. ⌜ (r ≡ atSlot 5 packed (now (pool .entry)) slot) × (r < 1099511627776) ⌝ }
 {
@@ -85,7 +85,7 @@ fn word_at(pool: &[u8], slot: usize) -> u64
 }
 
 // By kind, what may be added to each field of a good slot before it reaches the field's top bit.
-fn rooms_of(s: u8, g: usize) -> [u64; 4]
+pub(crate) fn rooms_of(s: u8, g: usize) -> [u64; 4]
     requires { ⌜ (s ≤ 64) × (g ≤ 256) ⌝ }
     ensures { λ r. ⌜ r ≡ rooms s g ⌝ }
 {
@@ -117,13 +117,13 @@ fn shown_at(room: &[u64; 4], pool: &[u8], slot: usize) -> u64
 }
 
 // What the slots so far show: their numbers, and their numbers with the room of their kinds, kept apart, which takes fewer steps.
-struct Seen {
-    numbers: u64,
-    sums: u64,
+pub(crate) struct Seen {
+    pub(crate) numbers: u64,
+    pub(crate) sums: u64,
 }
 
 // What is seen with one slot more, where three bytes follow it.
-fn with_slot(seen: Seen, room: &[u64; 4], pool: &[u8], slot: usize) -> Seen
+pub(crate) fn with_slot(seen: Seen, room: &[u64; 4], pool: &[u8], slot: usize) -> Seen
     requires { ⌜ Roomy (now room) × (slot * 5 + 8 ≤ length (now pool)) ⌝ }
     requires { ⌜ clear slotMask (bitOr (seen .numbers) (seen .sums)) ≡ every slot (λ i. wordGood (now room) (atSlot 5 packed (now pool) i)) ⌝ }
     ensures { λ r. ⌜ clear slotMask (bitOr (r .numbers) (r .sums)) ≡ every (slot + 1) (λ i. wordGood (now (room .entry)) (atSlot 5 packed (now (pool .entry)) i)) ⌝ }
@@ -174,7 +174,18 @@ fn rest_shown(room: &[u64; 4], pool: &[u8], from: usize, to: usize, first: u64) 
     two | shown_at(room, pool, from + 2)
 }
 
-// Whether every slot is good: a field above its limit carries into its top bit, or shows there by itself.
+// Whether every slot is good, where the groups of four before the last slots are seen: a field above its limit carries into its top bit, or shows there by itself.
+pub(crate) fn good_to_last(room: &[u64; 4], pool: &[u8], groups: usize, first: u64) -> bool
+    requires { ⌜ Roomy (now room) × (groups * 4 + 1 ≤ slotsOf 5 (now pool)) × (slotsOf 5 (now pool) ≤ groups * 4 + 4) × (clear slotMask first ≡ every (groups * 4) (λ i. wordGood (now room) (atSlot 5 packed (now pool) i))) ⌝ }
+    ensures { λ r. ⌜ r ≡ every (slotsOf 5 (now (pool .entry))) (λ i. wordGood (now (room .entry)) (atSlot 5 packed (now (pool .entry)) i)) ⌝ }
+{
+    let last = pool.len() / 5 - 1;
+    let most = rest_shown(room, pool, groups * 4, last, first);
+    let seen = most | shown(room, word_at(pool, last));
+    (seen & 0x100_8080_80FC) == 0
+}
+
+// Whether every slot is good.
 pub fn all_slots_good(s: u8, g: usize, pool: &[u8]) -> bool
     requires { ⌜ (s ≤ 64) × (g ≤ 256) ⌝ }
     ensures { λ r. ⌜ r ≡ allSlotsGood 5 s g (now (pool .entry)) ⌝ }
@@ -184,10 +195,7 @@ pub fn all_slots_good(s: u8, g: usize, pool: &[u8]) -> bool
         return true;
     }
     let room = rooms_of(s, g);
-    let last = n - 1;
-    let groups = last / 4;
+    let groups = (n - 1) / 4;
     let first = groups_shown(&room, pool, groups);
-    let most = rest_shown(&room, pool, groups * 4, last, first);
-    let seen = most | shown(&room, word_at(pool, last));
-    (seen & 0x100_8080_80FC) == 0
+    good_to_last(&room, pool, groups, first)
 }

@@ -1,2 +1,1 @@
 pub mod FirstSlots
-pub mod Search

@@ -13,19 +13,19 @@ use Rattle.model.specs.Tables.{Desk, lent, slotsOf, emptyAt}
 use Rattle.model.specs.Flat.{flat}
 use Rattle.model.proofs.EmptySlots.{at-most-all}
 use Rattle.model.proofs.TestLaws.{and-both, refused-by-front, refused-by-own, accepted-by-both}
-use Rattle.bytes.proofs.FrontLaws.{Ready, ready-names}
+use Rattle.bytes.proofs.FrontLaws.{counted-when-passed, Ready, ready-names}
 use Rattle.bytes.proofs.EffectLaws.{copy-clear, read-as, copied-as}
 use Rattle.bytes.proofs.copy.make_copy.Statement.{statement}
 use Rattle.bytes.proofs.copy.make_copy.Tie as tie
 
-abbrev start : tie.After-front → tie.Start
+abbrev start : tie.After-counted-front → tie.Start
 start c = c .before .before .before .before .before .before .before
 
 abbrev desk : tie.Start → Desk
 desk c = lent (c .args .s) (c .args .owners .now) (c .args .send .now) (c .args .receive .now) (c .args .pool .now)
 
-front-requires : tie.Need-front-requires
-front-requires c κs = search needs
+counted-front-requires : tie.Need-counted-front-requires
+counted-front-requires c κs = search needs
 
 refused-requires : tie.Need-refused-requires
 refused-requires c κs = search needs
@@ -38,12 +38,12 @@ same-length-2 c = search needs
 
 returns : tie.Need-returns
 unfolding makeCopy copyNumber
-returns c = refused-by-front (desk (start (c .before .before))) _ _ _ _ (c .before .if1 .taken) (c .before .before .front .ensures) (c .refused .ensures)
+returns c = refused-by-front (desk (start (c .before .before))) _ _ _ _ (c .before .if1 .taken) (c .before .before .counted-front .ensures .0) (c .refused .ensures)
 
 known : (c : tie.Else1) → let a = start (c .before) .args in Ready (desk (start (c .before))) (a .from) (a .pointer)
 known c =
     let a = start (c .before) .args in
-    ready-names (desk (start (c .before))) _ _ (ltb (a .from) (a .s) && ltb (a .to) (a .s)) (λ e. ltb-true _ _ (and-both _ _ e .0)) (c .before .front .ensures) (c .if1 .left)
+    ready-names (desk (start (c .before))) _ _ (ltb (a .from) (a .s) && ltb (a .to) (a .s)) (λ e. ltb-true _ _ (and-both _ _ e .0)) (c .before .counted-front .ensures .0) (c .if1 .left)
 
 -- the sender's place
 in-send : (c : tie.After-place-of) → c .place-of .result < length (start (c .before .before) .args .send .now)
@@ -60,7 +60,7 @@ own c =
     let b = start (place-of c .before .before) in
     let a = b .args in
     c .copy-refusal .ensures
-    ∙ read-as (desk b) (a .from) (a .pointer) (place-of c .place-of .ensures) (c .before .before .before .lowest-empty .ensures)
+    ∙ read-as (desk b) (a .from) (a .pointer) (place-of c .place-of .ensures) (c .before .before .before .search .ensures)
     (λ cell counter slot. copyRefusal (a .from) (a .to) (flat .owner (desk b) (a .pointer)) cell counter slot (slotsOf 5 (a .pool .now)))
 
 place-of-requires : tie.Need-place-of-requires
@@ -72,8 +72,10 @@ mul-counter c = omega (arith, in-send c, start (c .before .before) .good)
 slice-read-counter : tie.Need-slice-read-counter
 slice-read-counter c = in-send (c .before)
 
-lowest-empty-requires : tie.Need-lowest-empty-requires
-lowest-empty-requires c κs = search needs
+search-requires : tie.Need-search-requires
+search-requires c κs =
+    let e = c .before .before .before in
+    counted-when-passed _ _ _ (e .if1 .left) (e .before .counted-front .ensures .1)
 
 shared-slice-read-copy-refusal : tie.Need-shared-slice-read-copy-refusal
 shared-slice-read-copy-refusal c = known (c .before .before .before .before .before) .a-pointer
@@ -100,11 +102,11 @@ unfolding makeCopy copyNumber
 returns-2 c =
     let k = c .before .before in
     let e = place-of k .before in
-    refused-by-own (desk (start (e .before))) _ (k .copy-refusal .result) _ _ (sym (e .before .front .ensures) ∙ e .if1 .left) (c .before .if2 .taken) (own k) (c .refused2 .ensures)
+    refused-by-own (desk (start (e .before))) _ (k .copy-refusal .result) _ _ (sym (e .before .counted-front .ensures .0) ∙ e .if1 .left) (c .before .if2 .taken) (own k) (c .refused2 .ensures)
 
 -- none of them is given: the counter can rise, and the slot is empty
 clear : (c : tie.Else2) → let k = c .before in let o = place-of k in let a = start (o .before .before) .args in
-    (getD (a .send .now) (o .place-of .result) 0 ≡ 65535 → ⊥) × (k .before .before .before .lowest-empty .result .slot < slotsOf 5 (a .pool .now))
+    (getD (a .send .now) (o .place-of .result) 0 ≡ 65535 → ⊥) × (k .before .before .before .search .result .slot < slotsOf 5 (a .pool .now))
 clear c = copy-clear _ _ _ _ _ _ _ (sym (c .before .copy-refusal .ensures) ∙ c .if2 .left)
 
 add-send : tie.Need-add-send
@@ -123,7 +125,7 @@ cast-accepted-telling : tie.Need-cast-accepted-telling
 cast-accepted-telling c =
     let k = c .before .before .before .before .before .before in
     let pool = start (place-of k .before .before) .args .pool .now in
-    omega (arith, ap (λ (f : Empties). f .count) (k .before .before .before .lowest-empty .ensures), at-most-all (slotsOf 5 pool) (emptyAt 5 pool), known (place-of k .before) .few-slots)
+    omega (arith, ap (λ (f : Empties). f .count) (k .before .before .before .search .ensures), at-most-all (slotsOf 5 pool) (emptyAt 5 pool), known (place-of k .before) .few-slots)
 
 cast-accepted-telling-2 : tie.Need-cast-accepted-telling-2
 cast-accepted-telling-2 c = let e = c .before .before .before .before .before in omega (arith, clear e .1, known (place-of (e .before) .before) .few-slots)
@@ -145,14 +147,14 @@ returns-3 c =
     let k = o .before in
     let e = place-of k .before in
     let d = desk (start (e .before)) in
-    copied-as d _ _ (place-of k .place-of .ensures) (k .before .before .before .lowest-empty .ensures) _ (c .accepted-telling .ensures) (w .write-slot .ensures)
-    ∙ accepted-by-both d _ _ _ (sym (e .before .front .ensures) ∙ e .if1 .left) (sym (own k) ∙ o .if2 .left)
+    copied-as d _ _ (place-of k .place-of .ensures) (k .before .before .before .search .ensures) _ (c .accepted-telling .ensures) (w .write-slot .ensures)
+    ∙ accepted-by-both d _ _ _ (sym (e .before .counted-front .ensures .0) ∙ e .if1 .left) (sym (own k) ∙ o .if2 .left)
 
 pub make-copy-spec : {M : Type 1} → statement M
 make-copy-spec =
     tie.close
     (tie.spec
-    front-requires
+    counted-front-requires
     refused-requires
     same-length
     same-length-2
@@ -160,7 +162,7 @@ make-copy-spec =
     place-of-requires
     mul-counter
     slice-read-counter
-    lowest-empty-requires
+    search-requires
     shared-slice-read-copy-refusal
     shared-slice-read-copy-refusal-2
     copy-refusal-requires

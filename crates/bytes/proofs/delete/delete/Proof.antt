@@ -11,19 +11,19 @@ use Rattle.model.specs.Tables.{Desk, lent, slotsOf, emptyAt}
 use Rattle.model.specs.Flat.{flat}
 use Rattle.model.proofs.EmptySlots.{at-most-all}
 use Rattle.model.proofs.TestLaws.{refused-by-front, refused-by-own, accepted-by-both}
-use Rattle.bytes.proofs.FrontLaws.{Ready, ready-names}
+use Rattle.bytes.proofs.FrontLaws.{counted-when-passed, Ready, ready-names}
 use Rattle.bytes.proofs.EffectLaws.{delete-clear, read-as, deleted-as}
 use Rattle.bytes.proofs.delete.delete.Statement.{statement}
 use Rattle.bytes.proofs.delete.delete.Tie as tie
 
-abbrev start : tie.After-front → tie.Start
+abbrev start : tie.After-counted-front → tie.Start
 start c = c .before .before .before .before .before .before .before
 
 abbrev desk : tie.Start → Desk
 desk c = lent (c .args .s) (c .args .owners .now) (c .args .send .now) (c .args .receive .now) (c .args .pool .now)
 
-front-requires : tie.Need-front-requires
-front-requires c κs = search needs
+counted-front-requires : tie.Need-counted-front-requires
+counted-front-requires c κs = search needs
 
 refused-requires : tie.Need-refused-requires
 refused-requires c κs = search needs
@@ -36,10 +36,10 @@ same-length-2 c = search needs
 
 returns : tie.Need-returns
 unfolding delete deleteNumber
-returns c = refused-by-front (desk (start (c .before .before))) _ _ _ _ (c .before .if1 .taken) (c .before .before .front .ensures) (c .refused .ensures)
+returns c = refused-by-front (desk (start (c .before .before))) _ _ _ _ (c .before .if1 .taken) (c .before .before .counted-front .ensures .0) (c .refused .ensures)
 
 known : (c : tie.Else1) → let a = start (c .before) .args in Ready (desk (start (c .before))) (a .site) (a .pointer)
-known c = ready-names (desk (start (c .before))) _ _ _ (ltb-true _ _) (c .before .front .ensures) (c .if1 .left)
+known c = ready-names (desk (start (c .before))) _ _ _ (ltb-true _ _) (c .before .counted-front .ensures .0) (c .if1 .left)
 
 -- the site's place
 in-send : (c : tie.After-place-of) → c .place-of .result < length (start (c .before .before) .args .send .now)
@@ -59,7 +59,7 @@ own c =
     let b = start (place-of c .before .before) in
     let a = b .args in
     c .delete-refusal .ensures
-    ∙ read-as (desk b) (a .site) (a .pointer) (place-of c .place-of .ensures) (c .before .before .before .lowest-empty .ensures)
+    ∙ read-as (desk b) (a .site) (a .pointer) (place-of c .place-of .ensures) (c .before .before .before .search .ensures)
     (λ cell counter slot. deleteRefusal (a .site) (flat .owner (desk b) (a .pointer)) cell counter slot (slotsOf 5 (a .pool .now)))
 
 place-of-requires : tie.Need-place-of-requires
@@ -68,8 +68,10 @@ place-of-requires c κs = known c .few-pointers
 shared-slice-read-owner : tie.Need-shared-slice-read-owner
 shared-slice-read-owner c = known (c .before .before) .a-pointer
 
-lowest-empty-requires : tie.Need-lowest-empty-requires
-lowest-empty-requires c κs = search needs
+search-requires : tie.Need-search-requires
+search-requires c κs =
+    let e = c .before .before .before in
+    counted-when-passed _ _ _ (e .if1 .left) (e .before .counted-front .ensures .1)
 
 slice-read-delete-refusal : tie.Need-slice-read-delete-refusal
 slice-read-delete-refusal c = in-receive (c .before .before .before .before)
@@ -97,10 +99,10 @@ unfolding delete deleteNumber
 returns-2 c =
     let k = c .before .before in
     let e = place-of k .before in
-    refused-by-own (desk (start (e .before))) _ (k .delete-refusal .result) _ _ (sym (e .before .front .ensures) ∙ e .if1 .left) (c .before .if2 .taken) (own k) (c .refused2 .ensures)
+    refused-by-own (desk (start (e .before))) _ (k .delete-refusal .result) _ _ (sym (e .before .counted-front .ensures .0) ∙ e .if1 .left) (c .before .if2 .taken) (own k) (c .refused2 .ensures)
 
 -- none of them is given: the slot is empty
-clear : (c : tie.Else2) → let k = c .before in k .before .before .before .lowest-empty .result .slot < slotsOf 5 (start (place-of k .before .before) .args .pool .now)
+clear : (c : tie.Else2) → let k = c .before in k .before .before .before .search .result .slot < slotsOf 5 (start (place-of k .before .before) .args .pool .now)
 clear c = delete-clear _ _ _ _ _ _ (sym (c .before .delete-refusal .ensures) ∙ c .if2 .left)
 
 slice-write-receive : tie.Need-slice-write-receive
@@ -113,7 +115,7 @@ cast-accepted-telling : tie.Need-cast-accepted-telling
 cast-accepted-telling c =
     let k = c .before .before .before .before .before .before in
     let pool = start (place-of k .before .before) .args .pool .now in
-    omega (arith, ap (λ (f : Empties). f .count) (k .before .before .before .lowest-empty .ensures), at-most-all (slotsOf 5 pool) (emptyAt 5 pool), known (place-of k .before) .few-slots)
+    omega (arith, ap (λ (f : Empties). f .count) (k .before .before .before .search .ensures), at-most-all (slotsOf 5 pool) (emptyAt 5 pool), known (place-of k .before) .few-slots)
 
 cast-accepted-telling-2 : tie.Need-cast-accepted-telling-2
 cast-accepted-telling-2 c = let e = c .before .before .before .before .before in omega (arith, clear e, known (place-of (e .before) .before) .few-slots)
@@ -135,21 +137,21 @@ returns-3 c =
     let k = o .before in
     let e = place-of k .before in
     let d = desk (start (e .before)) in
-    deleted-as d _ _ (place-of k .place-of .ensures) (k .before .before .before .lowest-empty .ensures) (c .accepted-telling .ensures) (w .write-slot .ensures)
-    ∙ accepted-by-both d _ _ _ (sym (e .before .front .ensures) ∙ e .if1 .left) (sym (own k) ∙ o .if2 .left)
+    deleted-as d _ _ (place-of k .place-of .ensures) (k .before .before .before .search .ensures) (c .accepted-telling .ensures) (w .write-slot .ensures)
+    ∙ accepted-by-both d _ _ _ (sym (e .before .counted-front .ensures .0) ∙ e .if1 .left) (sym (own k) ∙ o .if2 .left)
 
 pub delete-spec : {M : Type 1} → statement M
 delete-spec =
     tie.close
     (tie.spec
-    front-requires
+    counted-front-requires
     refused-requires
     same-length
     same-length-2
     returns
     place-of-requires
     shared-slice-read-owner
-    lowest-empty-requires
+    search-requires
     slice-read-delete-refusal
     mul-delete-refusal
     shared-slice-read-delete-refusal

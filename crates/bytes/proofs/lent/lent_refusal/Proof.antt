@@ -1,74 +1,32 @@
--- Shape first, then owners and receive bytes as one test, then the slots.
-use mathlib.Core.Path.{_≡_, sym, _∙_}
-use mathlib.Core.Bool.{true, _&&_}
-use native.Mathlib.Omega.{arith}
+-- The tables first, then the slots.
 use borrow.Author.Needs.{needs}
-use borrow.Author.Tests.{not-true, not-false}
-use Rattle.model.specs.Tables.{Desk, lent, allBelow}
-use Rattle.model.specs.Calls.{lentRefusal}
-use Rattle.model.specs.Flat.{flat}
-use Rattle.model.proofs.InWords.{shape-in-words}
+use Rattle.model.specs.Tables.{Desk, lent}
+use Rattle.bytes.proofs.FrontLaws.{tables-refused, slots-decide, few-of-each}
 use Rattle.bytes.proofs.lent.lent_refusal.Statement.{statement}
 use Rattle.bytes.proofs.lent.lent_refusal.Tie as tie
 
 -- what is lent
-abbrev given : tie.After-shape-good → Desk
+abbrev given : tie.After-tables-refusal → Desk
 given c = let a = c .before .before .before .before .before .args in lent (a .s) (a .owners .now) (a .send .now) (a .receive .now) (a .pool .now)
 
-shape-holds : (c : tie.Else1) → flat .shaped (given (c .before)) ≡ true
-shape-holds c = sym (c .before .shape-good .ensures) ∙ not-false _ (c .if1 .left)
-
-bytes-tested : (c : tie.After-all-bits) → let d = given (c .before .before .before) in
-    (c .before .all-below .result && c .all-bits .result) ≡ (allBelow (d .S) (d .owners) && allBelow 2 (d .receive))
-bytes-tested c = λ w. c .before .all-below .ensures w && c .all-bits .ensures w
-
-bytes-hold : (c : tie.Else2) → let d = given (c .before .before .before .before) in (allBelow (d .S) (d .owners) && allBelow 2 (d .receive)) ≡ true
-bytes-hold c = sym (bytes-tested (c .before)) ∙ not-false _ (c .if2 .left)
-
-shape-good-requires : tie.Need-shape-good-requires
-shape-good-requires c κs = search needs
+tables-refusal-requires : tie.Need-tables-refusal-requires
+tables-refusal-requires c κs = search needs
 
 returns : tie.Need-returns
-unfolding lentRefusal
-returns c = simp (sym (c .before .shape-good .ensures) ∙ not-true _ (c .if1 .taken))
-
-all-below-requires : tie.Need-all-below-requires
-all-below-requires c κs = shape-in-words (given (c .before)) .0 (shape-holds c) .sizes .some-site
-
-all-bits-requires : tie.Need-all-bits-requires
-all-bits-requires c κs = search needs
-
-returns-2 : tie.Need-returns-2
-unfolding lentRefusal
-returns-2 c = simp (shape-holds (c .before .before .before), sym (bytes-tested (c .before)) ∙ not-true _ (c .if2 .taken))
+returns c = tables-refused (given (c .before)) (c .before .tables-refusal .ensures) (c .if1 .taken)
 
 all-slots-good-requires : tie.Need-all-slots-good-requires
-all-slots-good-requires c κs =
-    let e = c .before .before .before in
-    let z = shape-in-words (given (e .before)) .0 (shape-holds e) .sizes in
-    omega arith
+all-slots-good-requires c κs = few-of-each (given (c .before)) (c .before .tables-refusal .ensures) (c .if1 .left)
+
+returns-2 : tie.Need-returns-2
+returns-2 c =
+    let e = c .before .before in
+    rw (slots-decide (given (e .before)) (e .before .tables-refusal .ensures) (e .if1 .left) (c .before .all-slots-good .ensures), c .if2 .taken)
 
 returns-3 : tie.Need-returns-3
-unfolding lentRefusal
 returns-3 c =
     let e = c .before .before in
-    simp (shape-holds (e .before .before .before), bytes-hold e, sym (c .before .all-slots-good .ensures) ∙ c .if3 .taken)
-
-returns-4 : tie.Need-returns-4
-unfolding lentRefusal
-returns-4 c =
-    let e = c .before .before in
-    simp (shape-holds (e .before .before .before), bytes-hold e, sym (c .before .all-slots-good .ensures) ∙ c .if3 .left)
+    rw (slots-decide (given (e .before)) (e .before .tables-refusal .ensures) (e .if1 .left) (c .before .all-slots-good .ensures), c .if2 .left)
 
 pub lent-refusal-spec : {M : Type 1} → statement M
-lent-refusal-spec =
-    tie.close
-    (tie.spec
-    shape-good-requires
-    returns
-    all-below-requires
-    all-bits-requires
-    returns-2
-    all-slots-good-requires
-    returns-3
-    returns-4)
+lent-refusal-spec = tie.close (tie.spec tables-refusal-requires returns all-slots-good-requires returns-2 returns-3)

@@ -1,12 +1,11 @@
 -- One slot more is counted where it is empty.
-use mathlib.Core.Path.{_≡_}
 use native.Mathlib.Omega.{arith}
 use borrow.Author.Needs.{needs}
 use Rattle.model.specs.Tables.{emptyAt}
 use Rattle.model.proofs.EmptySlots.{at-most-all}
-use Rattle.slots.proofs.LowestLaws.{byte-at-most-1, counted-more}
-use Rattle.slots.proofs.lowest.with_slot.Statement.{statement}
-use Rattle.slots.proofs.lowest.with_slot.Tie as tie
+use Rattle.scan.proofs.CountedLaws.{byte-at-most-1, byte-counted}
+use Rattle.scan.proofs.counted.with_empty.Statement.{statement}
+use Rattle.scan.proofs.counted.with_empty.Tie as tie
 
 mul-result : tie.Need-mul-result
 mul-result c = search needs
@@ -23,7 +22,7 @@ add-result c =
     omega (arith, c .before .pre .1, at-most-all (a .slot) (emptyAt 5 (a .pool .now)), byte-at-most-1 (emptyAt 5 (a .pool .now) (a .slot)), c .before .good)
 
 returns : tie.Need-returns
-returns c = counted-more (emptyAt 5 (c .before .args .pool .now)) (c .before .args .slot) (c .before .pre .1)
+returns c = byte-counted (emptyAt 5 (c .before .args .pool .now)) (c .before .args .slot) (c .before .pre .1)
 
-pub with-slot-spec : {M : Type 1} → statement M
-with-slot-spec = tie.close (tie.spec mul-result shared-slice-read-result cast-result add-result returns)
+pub with-empty-spec : {M : Type 1} → statement M
+with-empty-spec = tie.close (tie.spec mul-result shared-slice-read-result cast-result add-result returns)

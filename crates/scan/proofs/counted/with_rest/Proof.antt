@@ -4,8 +4,8 @@ use mathlib.Core.Path.{_≡_}
 use native.Mathlib.Omega.{arith}
 use Rattle.model.specs.Questions.{howMany}
 use Rattle.model.specs.Tables.{slotsOf, emptyAt}
-use Rattle.slots.proofs.lowest.with_rest.Statement.{statement}
-use Rattle.slots.proofs.lowest.with_rest.Tie as tie
+use Rattle.scan.proofs.counted.with_rest.Statement.{statement}
+use Rattle.scan.proofs.counted.with_rest.Tie as tie
 
 abbrev Inv-loop : tie.InvT-loop
 Inv-loop first pool from n count₀ i₀ count i = (i ≤ n) × (count ≡ howMany i (emptyAt 5 pool))
@@ -16,8 +16,8 @@ abbrev μ-loop : tie.MeasureT-loop
 loop-holds : tie.Need-loop-holds Inv-loop μ-loop
 loop-holds c = (omega arith, c .before .pre .1)
 
-with-slot-requires : tie.Need-with-slot-requires Inv-loop μ-loop
-with-slot-requires c κs = (omega arith, c .before .loop .inv .1)
+with-empty-requires : tie.Need-with-empty-requires Inv-loop μ-loop
+with-empty-requires c κs = (omega arith, c .before .loop .inv .1)
 
 add-i : tie.Need-add-i Inv-loop μ-loop
 add-i c = omega arith
@@ -26,7 +26,7 @@ loop-less : tie.Need-loop-less Inv-loop μ-loop
 loop-less c = omega arith
 
 loop-again : tie.Need-loop-again Inv-loop μ-loop
-loop-again c = (omega arith, c .with-slot .ensures)
+loop-again c = (omega arith, c .with-empty .ensures)
 
 returns : tie.Need-returns Inv-loop μ-loop
 returns c =
@@ -35,4 +35,4 @@ returns c =
     rw e at (l .inv .1)
 
 pub with-rest-spec : {M : Type 1} → statement M
-with-rest-spec = tie.close (tie.spec Inv-loop μ-loop loop-holds with-slot-requires add-i loop-less loop-again returns)
+with-rest-spec = tie.close (tie.spec Inv-loop μ-loop loop-holds with-empty-requires add-i loop-less loop-again returns)
