@@ -5,22 +5,18 @@ use mathlib.Core.Logic.{_≢_, _↔_, inl, inr}
 use mathlib.Core.Bool.{Bool, true, false, cond}
 use mathlib.Core.List.{List, [], _∷_, _++_}
 use native.Mathlib.Omega.{arith}
-use lib.Dec.{ltb}
-use lib.ListN.{length}
-use lib.Seq.{sets}
 use Rattle.model.specs.declared.Posted.{Posted}
 use Rattle.model.specs.declared.Posted.the-variants.{Copy, Dec as Decr, IncDec, Nothing}
 use Rattle.model.specs.declared.Answer.{Answer}
 use Rattle.model.specs.declared.Call.{Call}
 use Rattle.model.specs.declared.Call.the-variants.{MakeCopy, Receive, Delete, Ask}
-use Rattle.model.specs.Refusals.{BadShape, PoolFull, _when_}
+use Rattle.model.specs.Refusals.{PoolFull}
 use Rattle.model.specs.Questions.{howMany, total}
 use Rattle.model.specs.Messages.{isNothing}
-use Rattle.model.specs.Answers.{accepted, refused, Outcome, unless}
+use Rattle.model.specs.Answers.{refused, Outcome, unless}
 use Rattle.model.specs.Layout.{Layout}
 use Rattle.model.specs.Calls.{lentRefusal, emptySlots, lowestEmpty, openRefusal, openDesk, copyNumber, copied, makeCopy, receiveNumber, received, receive, deleteNumber, deleted, delete, askNumber, asked, ask, step}
 use Rattle.model.specs.Laws.{Frame, withSlot, Reads, Laws}
-use Rattle.model.specs.Lines.{lineOf, writeCall}
 use Rattle.model.specs.Transcript.{answerLine}
 use Rattle.model.specs.Demands.{Row, _because_, FirstOf, NoSlotEmpty, lentRows, copyRowsWhen, deleteRowsWhen}
 use Rattle.model.proofs.TestLaws.{true-not-false}
@@ -77,14 +73,14 @@ pub line-tells-no-count : (a : Answer) (n : ℕ) → answerLine (record { number
 unfolding answerLine
 line-tells-no-count a n = refl
 
--- The writer of a line tells none.
-pub write-tells-nothing : (text : List ℕ) (call : Call) → writeCall text call .answer .empty ≡ 0
-unfolding writeCall
-write-tells-nothing text call = go (BadShape when ltb (length text) 9)
-  where
-    go : (n : ℕ) → unless n text (record { answer = accepted 0 Nothing; desk = sets text 0 (lineOf call) }) .answer .empty ≡ 0
-    go zero = refl
-    go (suc n) = refl
+-- where an outcome tells none, a refusal or it tells none
+untold : {D : Type 0} (n : ℕ) (d : D) (o : Outcome D) → o .answer .empty ≡ 0 → unless n d o .answer .empty ≡ 0
+untold zero d o e = e
+untold (suc n) d o e = refl
+
+untold-refusal : {D : Type 0} (n : ℕ) (d : D) (o : Outcome D) → o .answer .number ≡ 0 → unless n d o .answer .number ≢ 0 → unless n d o .answer .empty ≡ 0
+untold-refusal zero d o e given = absurd (given e)
+untold-refusal (suc n) d o e given = refl
 
 -- 1 where there is no message
 abbrev weight : Posted → ℕ
@@ -116,14 +112,6 @@ module _ {D : Type 0} (L : Layout D) where
   delete-tells d site p e = ap (λ (a : Answer). a .empty) (delete-answer L d site p e)
 
   -- No other answer tells a count: that of another call, and that of a refusal.
-  untold : (n : ℕ) (d : D) (o : Outcome D) → o .answer .empty ≡ 0 → unless n d o .answer .empty ≡ 0
-  untold zero d o e = e
-  untold (suc n) d o e = refl
-
-  untold-refusal : (n : ℕ) (d : D) (o : Outcome D) → o .answer .number ≡ 0 → unless n d o .answer .number ≢ 0 → unless n d o .answer .empty ≡ 0
-  untold-refusal zero d o e given = absurd (given e)
-  untold-refusal (suc n) d o e given = refl
-
   pub receive-tells-nothing : (d : D) (slot : ℕ) → step L d (Receive slot) .answer .empty ≡ 0
   unfolding step receive received
   receive-tells-nothing d slot = untold (receiveNumber L d slot) d (received L d slot) refl

@@ -13,13 +13,13 @@ use Rattle.model.specs.declared.Posted.{Posted}
 use Rattle.model.specs.declared.Posted.the-variants.{Copy, Dec as Decr, IncDec, Nothing}
 use Rattle.model.specs.declared.Call.{Call}
 use Rattle.model.specs.declared.Call.the-variants.{MakeCopy, Receive, Delete, Ask}
-use Rattle.model.specs.Refusals.{OutOfOrder, _orElse_}
+use Rattle.model.specs.Refusals.{_orElse_}
 use Rattle.model.specs.Messages.{isNothing, pointerOf, receiveRefusal}
 use Rattle.model.specs.Calls.{lentRefusal, front, openRefusal, openDesk, lowestEmpty, counterThere, cellThere, replied, copyNumber, copied, makeCopy, receiveNumber, received, receive, deleteNumber, deleted, delete, step}
 use Rattle.model.specs.Laws.{Inside}
 use Rattle.model.specs.Tables.{place}
 use Rattle.model.specs.Demands.{_among_, TellsEarly}
-use Rattle.model.specs.Ordered.{numberedSlot, numberFor, advanced, OrderedDesk, lentInOrder, ordered}
+use Rattle.model.specs.Ordered.{OutOfOrder, numberedSlot, numberFor, advanced, OrderedDesk, lentInOrder, ordered}
 use Rattle.model.specs.InOrder.{numberOf, nextToPost, nextToReceive, nextFor, orderRows, listedInOrder, Numbers}
 use Rattle.model.proofs.TestLaws.{and-both, when-not, or-else-most, when-most}
 use Rattle.model.proofs.PartLaws.{zeros-at}

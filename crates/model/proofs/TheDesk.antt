@@ -373,9 +373,6 @@ refusals-tell-nothing = empty-slots.refusals-tell-nothing flat
 pub opening-tells-nothing : (d : Desk) → openDesk flat d .answer .empty ≡ 0
 opening-tells-nothing = empty-slots.opening-tells-nothing flat
 
-pub write-tells-nothing : (text : List ℕ) (call : Call) → writeCall text call .answer .empty ≡ 0
-write-tells-nothing = empty-slots.write-tells-nothing
-
 -- After an accepted opening all slots are empty. The search that the code makes is of the slot and of the count; the answer line of `desk` is the same whatever count is told.
 pub all-empty-after-opening : (d : Desk) → openDesk flat d .answer .number ≡ 0 → emptySlots flat (openDesk flat d .desk) ≡ flat .slots d
 all-empty-after-opening = empty-slots.all-empty-after-opening flat flat-laws

@@ -10,12 +10,12 @@ use Rattle.moreau.specs.Transitions.{Guard}
 use Rattle.model.specs.declared.Posted.{Posted}
 use Rattle.model.specs.declared.Posted.the-variants.{Copy, Dec, IncDec, Nothing}
 use Rattle.model.specs.declared.Call.{Call}
-use Rattle.model.specs.Refusals.{OutOfOrder, _when_}
+use Rattle.model.specs.Refusals.{_when_}
 use Rattle.model.specs.Survey.{inFlight}
 use Rattle.model.specs.InWords.{Shaped, GoodSlots}
 use Rattle.model.specs.Tables.{slotsOf}
 use Rattle.model.specs.Demands.{Row, _because_, listedWith}
-use Rattle.model.specs.Ordered.{OrderedDesk, numberAt, next, ofPair, pairNumber, numberFor, ordered}
+use Rattle.model.specs.Ordered.{OutOfOrder, OrderedDesk, numberAt, next, ofPair, pairNumber, numberFor, ordered}
 
 -- ---- 1 and 2 in words
 -- as in document 01 with slots of 7 bytes, and S x S numbers to post and to receive

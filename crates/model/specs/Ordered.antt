@@ -6,13 +6,17 @@ use lib.Dec.{eqb}
 use lib.ListN.{length, getD, set, replicate}
 use lib.Seq.{sets}
 use Rattle.model.specs.declared.Posted.{Posted}
-use Rattle.model.specs.Refusals.{OutOfOrder, _when_}
+use Rattle.model.specs.Refusals.{_when_}
 use Rattle.model.specs.Questions.{every}
 use Rattle.model.specs.Messages.{slotOf, isNothing, sender, receiver}
 use Rattle.model.specs.Layout.{Layout}
 use Rattle.model.specs.Tables.{Lent, lent, place, poolGood, slotsOf, allSlotsGood, messageAt, emptyAt}
 use Rattle.model.specs.Parts.{Pool, deskOf}
 use Rattle.model.specs.Flat.{byteCells}
+
+-- the number of the refusal: the slot's number is not its pair's next to receive
+abbrev pub OutOfOrder : ℕ
+OutOfOrder = 21
 
 -- the bytes of the pool, and the next number to post and the next to receive of each ordered pair of sites
 pub record NumberedPool : Type 0 where

@@ -63,9 +63,6 @@ abbrev pub NotListed : ℕ
 NotListed = 20
 
 -- Document 02, Three
-abbrev pub OutOfOrder : ℕ
-OutOfOrder = 21
-
 -- a number that is given when a test holds; 0 where it does not
 infix 25 _when_
 abbrev pub _when_ : ℕ → Bool → ℕ
