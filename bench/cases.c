@@ -62,11 +62,11 @@ static void receive_copy_dec(sample *s) { receive_copy(s, 0, 1); }
 static void receive_dec(sample *s) {
     desk *d = take_slot(s);
     unsigned p = s->asked.pointer, owner = d->owners[p], from = other_than(d, owner);
-    fill_slot(d, s->asked.slot, DEC, from, owner, 0, p);
     for (size_t slot = 0; slot < d->told.pool_len / SLOT; slot++) {
         const uint8_t *m = d->pool + slot * SLOT;
         if (m[0] == INC_DEC && m[1] == from && m[2] == owner && m[4] == p) fill_slot(d, slot, COPY, from, owner, 0, p);
     }
+    fill_slot(d, s->asked.slot, DEC, from, owner, 0, p);
     d->send[cell(d, owner, p)] = 7;
 }
 

@@ -3,26 +3,26 @@
 
 /* One desk's calls. */
 typedef struct {
-    __typeof__(desk_make_copy) *make_copy;
-    __typeof__(desk_receive) *receive;
-    __typeof__(desk_delete) *delete;
-    __typeof__(desk_ask) *ask;
-    __typeof__(desk_share) *share;
-    __typeof__(desk_sheet) *sheet;
+    __typeof__(LIBRARY(make_copy)) *make_copy;
+    __typeof__(LIBRARY(receive)) *receive;
+    __typeof__(LIBRARY(delete)) *delete;
+    __typeof__(LIBRARY(ask)) *ask;
+    __typeof__(LIBRARY(share)) *share;
+    __typeof__(LIBRARY(sheet)) *sheet;
 } code;
 
-__typeof__(desk_make_copy) plain_make_copy, tuned_make_copy;
-__typeof__(desk_receive) plain_receive, tuned_receive;
-__typeof__(desk_delete) plain_delete, tuned_delete;
-__typeof__(desk_ask) plain_ask, tuned_ask;
-__typeof__(desk_share) plain_share, tuned_share;
-__typeof__(desk_sheet) plain_sheet, tuned_sheet;
+__typeof__(LIBRARY(make_copy)) plain_make_copy, tuned_make_copy;
+__typeof__(LIBRARY(receive)) plain_receive, tuned_receive;
+__typeof__(LIBRARY(delete)) plain_delete, tuned_delete;
+__typeof__(LIBRARY(ask)) plain_ask, tuned_ask;
+__typeof__(LIBRARY(share)) plain_share, tuned_share;
+__typeof__(LIBRARY(sheet)) plain_sheet, tuned_sheet;
 
 /* What a measurement costs by itself: taken off from all. */
 __attribute__((naked)) static void nothing(void) { __asm__("ret"); }
 
 static const volatile code TABLE[CODES] = {
-    {desk_make_copy, desk_receive, desk_delete, desk_ask, desk_share, desk_sheet},
+    {LIBRARY(make_copy), LIBRARY(receive), LIBRARY(delete), LIBRARY(ask), LIBRARY(share), LIBRARY(sheet)},
     {plain_make_copy, plain_receive, plain_delete, plain_ask, plain_share, plain_sheet},
     {tuned_make_copy, tuned_receive, tuned_delete, tuned_ask, tuned_share, tuned_sheet},
     {(void *)nothing, (void *)nothing, (void *)nothing, (void *)nothing, (void *)nothing, (void *)nothing},
@@ -30,15 +30,20 @@ static const volatile code TABLE[CODES] = {
 
 uint32_t sheet[SHEET] __attribute__((aligned(64)));
 
-static answer of_call(desk_answer a) {
+static answer of_call(call_answer a) {
     answer r = {a.number, a.value, a.empty, {0}, 0};
-    __builtin_memcpy(r.message, a.message, SLOT);
+    __builtin_memcpy(r.message, a.message, MESSAGE);
     return r;
 }
 
 static answer of_share(desk_share_answer a) { return (answer){a.number, 0, 0, {0}, a.share}; }
 
-#define GIVEN t->sites, d->owners, t->pointers, d->send, t->send_len, d->receive, t->receive_len, d->pool, t->pool_len
+#ifdef IN_ORDER
+#define NUMBERS_GIVEN , d->to_post, t->to_post_len, d->to_receive, t->to_receive_len
+#else
+#define NUMBERS_GIVEN
+#endif
+#define GIVEN t->sites, d->owners, t->pointers, d->send, t->send_len, d->receive, t->receive_len, d->pool, t->pool_len NUMBERS_GIVEN
 
 answer made(int which, sample *s) {
     const volatile code *c = &TABLE[which];

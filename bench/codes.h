@@ -9,7 +9,7 @@ enum { OURS, PLAIN, TUNED, NOTHING, CODES };
 /* Any call's answer; what a call does not give is 0. */
 typedef struct {
     unsigned number, value, empty;
-    uint8_t message[SLOT];
+    uint8_t message[MESSAGE];
     int32_t share;
 } answer;
 

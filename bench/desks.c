@@ -17,6 +17,9 @@ static void *part(desk *d, size_t bytes) {
     return at;
 }
 
+/* The pairs of sites that have numbers. */
+static size_t pairs(const size *z) { return NUMBERED ? z->sites * z->sites : 0; }
+
 static void place_desk(desk *d, uint8_t *block, const size *z) {
     size_t cells = z->sites * z->pointers;
     d->block = block;
@@ -25,10 +28,12 @@ static void place_desk(desk *d, uint8_t *block, const size *z) {
     d->receive = part(d, cells);
     d->owners = part(d, z->pointers);
     d->pool = part(d, z->slots * SLOT);
+    d->to_post = part(d, pairs(z) * sizeof *d->to_post);
+    d->to_receive = part(d, pairs(z) * sizeof *d->to_receive);
 }
 
 void place_sample(sample *s, size_t i, const size *z) {
-    static uint8_t room[1 << 20] __attribute__((aligned(64)));
+    static uint8_t room[2 << 20] __attribute__((aligned(64)));
     place_desk(&s->before, room, z);
     size_t each = s->before.block_len;
     place_desk(&s->before, room + 2 * i * each, z);
@@ -41,8 +46,9 @@ void restore(sample *s) {
 }
 
 void fill_slot(desk *d, size_t slot, unsigned kind, unsigned from, unsigned to, unsigned third, unsigned pointer) {
-    const unsigned bytes[SLOT] = {kind, from, to, third, pointer};
+    const unsigned number = NUMBERED && kind != EMPTY ? pick(65536) : 0, bytes[] = {kind, from, to, third, pointer, number >> 8, number};
     for (size_t i = 0; i < SLOT; i++) d->pool[slot * SLOT + i] = (uint8_t)bytes[i];
+    if (NUMBERED && kind != EMPTY) d->to_receive[from * d->told.sites + to] = (uint16_t)number;
 }
 
 void fill_random(desk *d, size_t slot) {
@@ -52,12 +58,16 @@ void fill_random(desk *d, size_t slot) {
 
 void fill_desk(desk *d, const size *z) {
     size_t cells = z->sites * z->pointers, left = z->slots / 2;
-    d->told = (lengths){(uint8_t)z->sites, z->pointers, cells, cells, z->slots * SLOT, SHEET};
+    d->told = (lengths){(uint8_t)z->sites, z->pointers, cells, cells, z->slots * SLOT, SHEET, pairs(z), pairs(z)};
     __builtin_memset(d->block, 0, d->block_len);
     for (size_t p = 0; p < z->pointers; p++) d->owners[p] = (uint8_t)pick(d->told.sites);
     for (size_t i = 0; i < cells; i++) {
         d->send[i] = (uint16_t)(pick(2) * (1 + pick(9)));
         d->receive[i] = (uint8_t)pick(2);
+    }
+    for (size_t i = 0; i < pairs(z); i++) {
+        d->to_post[i] = (uint16_t)pick(65536);
+        d->to_receive[i] = (uint16_t)pick(65536);
     }
     for (size_t slot = 0; slot < z->slots; slot++)
         if (pick((unsigned)(z->slots - slot)) < left) {
@@ -70,7 +80,7 @@ void fill_desk(desk *d, const size *z) {
 static void damage(desk *d) {
     lengths *t = &d->told;
     unsigned at = pick((unsigned)t->pool_len), slots = (unsigned)t->pool_len / SLOT;
-    switch (pick(12)) {
+    switch (pick(NUMBERED ? 14 : 12)) {
     case 0: t->sites = (uint8_t)(pick(2) ? 0 : 65 + pick(191)); break;
     case 1: t->send_len--; break;
     case 2: t->receive_len--; break;
@@ -82,6 +92,8 @@ static void damage(desk *d) {
     case 8: for (size_t i = 0; i < t->send_len; i++) d->send[i] = pick(2) ? 65535 : 0; break;
     case 9: for (size_t i = 0; i < slots; i++) fill_random(d, i); break;
     case 10: t->pool_len = pick(slots) * SLOT; break;
+    case 12: t->to_post_len--; break;
+    case 13: t->to_receive_len--; break;
     default: t->sheet_len = pick(SHEET); break;
     }
 }

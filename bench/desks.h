@@ -12,13 +12,13 @@ typedef struct {
 /* What a call is told: S and the lengths. */
 typedef struct {
     uint8_t sites;
-    size_t pointers, send_len, receive_len, pool_len, sheet_len;
+    size_t pointers, send_len, receive_len, pool_len, sheet_len, to_post_len, to_receive_len;
 } lengths;
 
 /* A desk: its parts stand in one block, each at a multiple of 16 bytes, as a host's own would. */
 typedef struct {
     lengths told;
-    uint16_t *send;
+    uint16_t *send, *to_post, *to_receive;
     uint8_t *receive, *pool, *owners, *block;
     size_t block_len;
 } desk;
@@ -51,7 +51,7 @@ extern const size_t CASE_COUNT;
 /* A number below n, from a fixed seed. */
 unsigned pick(unsigned n);
 
-/* Two desks of a size for sample number i; what stood there is gone. All samples together have room for 1 MiB: 8 large ones, or thousands of small ones. */
+/* Two desks of a size for sample number i; what stood there is gone. All samples together have room for 2 MiB: 8 large ones, or thousands of small ones. */
 void place_sample(sample *s, size_t i, const size *z);
 
 /* Makes the second desk what the first is. */
@@ -60,7 +60,7 @@ void restore(sample *s);
 /* A good desk, half full. */
 void fill_desk(desk *d, const size *z);
 
-/* Into a slot. */
+/* Into a slot; where messages are numbered, with any number, which its pair receives next. */
 void fill_slot(desk *d, size_t slot, unsigned kind, unsigned from, unsigned to, unsigned third, unsigned pointer);
 void fill_random(desk *d, size_t slot);
 

@@ -36,12 +36,12 @@ static void keep(const sample *s, uint8_t *to) {
 }
 
 static int same_answer(answer a, answer b) {
-    return a.number == b.number && a.value == b.value && a.empty == b.empty && a.share == b.share && !memcmp(a.message, b.message, SLOT);
+    return a.number == b.number && a.value == b.value && a.empty == b.empty && a.share == b.share && !memcmp(a.message, b.message, MESSAGE);
 }
 
 /* The number that all three give, with the same answer and the same memory after. */
 static unsigned agreed(sample *s, const char *where) {
-    static uint8_t first[1 << 16], second[1 << 16];
+    static uint8_t first[1 << 17], second[1 << 17];
     answer a = made_anew(PLAIN, s);
     keep(s, first);
     for (int code = 0; code < NOTHING; code++) {
@@ -52,13 +52,16 @@ static unsigned agreed(sample *s, const char *where) {
     return a.number;
 }
 
+/* Whether some call gives this number: 0 to 13, and the one that comes in 9's place. */
+static int given(unsigned n) { return (n <= NOT_OWNER && n != HELD) || n == TOO_EARLY; }
+
 /* Random calls, many of them refused: the three agree. Adds which numbers were met. */
 static void agree_on_any(const size *z, size_t trials, unsigned *met) {
     place_sample(&samples[0], 0, z);
     for (size_t i = 0; i < trials; i++) {
         any_call(&samples[0], (call)(i % CALLS), z);
         unsigned n = agreed(&samples[0], "random calls");
-        if (n >= NUMBERS) stop("a number that no call gives", "random calls");
+        if (!given(n)) stop("a number that no call gives", "random calls");
         met[n]++;
     }
 }
@@ -69,7 +72,7 @@ static void agree(void) {
     agree_on_any(&SMALL, 20000, met);
     agree_on_any(&LARGE, 4000, met);
     for (unsigned n = 0; n < NUMBERS; n++)
-        if (!met[n]) stop("a number was not met", "random calls");
+        if (given(n) && !met[n]) stop("a number was not met", "random calls");
 }
 
 static void make_samples(const measured *m, const size *z, size_t count) {

@@ -10,7 +10,7 @@ static int all_below(const uint8_t *bytes, size_t len, size_t limit) {
 }
 
 static int slot_good(const lent *d, const uint8_t *slot) {
-    if (slot[0] == EMPTY) return !slot[1] && !slot[2] && !slot[3] && !slot[4];
+    if (slot[0] == EMPTY) return !slot[1] && !slot[2] && !slot[3] && !slot[4] && (!NUMBERED || (!slot[SLOT - 2] && !slot[SLOT - 1]));
     if (slot[0] > INC_DEC) return 0;
     if (slot[1] >= d->sites || slot[2] >= d->sites || slot[4] >= d->pointers) return 0;
     return slot[0] == INC_DEC ? slot[3] < d->sites : slot[3] == 0;
@@ -44,6 +44,7 @@ static size_t lowest_empty(const lent *d) {
     return slot;
 }
 
+#ifndef IN_ORDER
 static int held(const lent *d, unsigned a, unsigned b, unsigned pointer) {
     for (size_t slot = 0; slot < d->slots; slot++) {
         const uint8_t *m = d->pool + slot * SLOT;
@@ -51,10 +52,12 @@ static int held(const lent *d, unsigned a, unsigned b, unsigned pointer) {
     }
     return 0;
 }
+#endif
 
-static desk_answer post(const lent *d, size_t slot, unsigned kind, unsigned from, unsigned to, unsigned third, unsigned pointer) {
-    desk_answer r = {0, (uint16_t)slot, 0, {(uint8_t)kind, (uint8_t)from, (uint8_t)to, (uint8_t)third, (uint8_t)pointer}};
-    for (size_t i = 0; i < SLOT; i++) d->pool[slot * SLOT + i] = r.message[i];
+static call_answer post(const lent *d, size_t slot, unsigned kind, unsigned from, unsigned to, unsigned third, unsigned pointer) {
+    call_answer r = {0, (uint16_t)slot, 0, {(uint8_t)kind, (uint8_t)from, (uint8_t)to, (uint8_t)third, (uint8_t)pointer}};
+    for (size_t i = 0; i < MESSAGE; i++) d->pool[slot * SLOT + i] = r.message[i];
+    put_number(d, d->pool + slot * SLOT, kind, from, to);
     return r;
 }
 

@@ -8,6 +8,7 @@
 
 INLINE uint64_t load64(const uint8_t *p) { uint64_t x; __builtin_memcpy(&x, p, 8); return x; }
 INLINE uint32_t load32(const uint8_t *p) { uint32_t x; __builtin_memcpy(&x, p, 4); return x; }
+INLINE uint64_t load_slot(const uint8_t *p) { return load32(p) | (uint64_t)load32(p + SLOT - 4) << 8 * (SLOT - 4); }
 
 /* Bytes below 128 that pass their limit show in the top bit once the room is added; bytes of 128 or more show by themselves. */
 INLINE uint64_t with_room(uint64_t x, uint64_t room) { return x | (x + room); }
@@ -25,36 +26,42 @@ INLINE uint64_t seen_bytes(const uint8_t *b, size_t len, uint64_t room) {
     return seen;
 }
 
-/* What a pass over the pool has seen: the or of all, and how many slots were empty. */
+/* What a pass over the pool has seen: the or of all, the or of all with their room (kept apart it takes fewer steps), and how many slots were empty. */
 typedef struct {
-    uint64_t seen;
+    uint64_t seen, roomed;
     size_t empty;
 } pass;
 
-/* A slot's word, and what it becomes with the room of its kind; where it is counted, what its kind adds to the count. */
-INLINE void see_slot(pass *so_far, uint64_t x, const uint64_t *room, int counted) {
-    so_far->seen |= x | (x + room[x & 3]);
-    if (counted) so_far->empty += room[4 + (x & 3)];
+/* A slot's word, of which the message is looked at, and in an empty slot its number too. */
+INLINE uint64_t looked_at(uint64_t word, const uint64_t *by_kind) { return word & (NUMBERED ? by_kind[8 + (word & 3)] : 0xffffffffff); }
+
+/* What is looked at, and what it becomes with the room of its kind; where it is counted, what its kind adds to the count. */
+INLINE void see_slot(pass *so_far, uint64_t word, const uint64_t *by_kind, int counted) {
+    const uint64_t x = looked_at(word, by_kind), kind = word & 3;
+    so_far->seen |= x;
+    so_far->roomed |= x + by_kind[kind];
+    if (counted) so_far->empty += by_kind[4 + kind];
 }
 
 /* Whether every slot is good; where asked, how many are empty. By kind: the room, what may be added to each field before it reaches its top
-   bit; then what the kind adds to the count. Counting costs one instruction a slot here, and a pass of its own costs two and a half. */
+   bit; then what the kind adds to the count; then the bits that are looked at, where messages are numbered. Counting costs one instruction a
+   slot here, and a pass of its own costs two and a half. */
 INLINE int slots_good(const lent *d, size_t *empty) {
     const uint64_t site = 128 - d->sites, pointer = (uint64_t)(256 - d->pointers) << 32, low = 0xffffffffff;
-    const uint64_t named = pointer + 0x7f000000 + site * 0x10100;
-    const uint64_t room[8] = {0xff7f7f7f00, named, named, pointer + site * 0x1010100, 1, 0, 0, 0};
-    pass so_far = {0, 0};
+    const uint64_t named = pointer + 0x7f000000 + site * 0x10100, none = 0xff7f7f7f00 + (NUMBERED ? (uint64_t)0xfffe << 40 : 0);
+    const uint64_t by_kind[12] = {none, named, named, pointer + site * 0x1010100, 1, 0, 0, 0, 0xffffffffffffff, low, low, low};
+    pass so_far = {0, 0, 0};
     if (empty) *empty = 0;
     if (!d->slots) return 1;
     const uint8_t *p = d->pool, *last = p + d->pool_len - SLOT, *stop = p + (d->slots - 1) / 4 * (4 * SLOT);
-    see_slot(&so_far, load32(last) | (uint64_t)last[4] << 32, room, !!empty);
+    see_slot(&so_far, load_slot(last), by_kind, !!empty);
     for (; p != stop; p += 4 * SLOT) {
-        for (int i = 0; i < 4; i++) see_slot(&so_far, load64(p + i * SLOT) & low, room, !!empty);
+        for (int i = 0; i < 4; i++) see_slot(&so_far, load64(p + i * SLOT), by_kind, !!empty);
     }
     _Pragma("nounroll")
-    for (; p != last; p += SLOT) see_slot(&so_far, load64(p) & low, room, !!empty);
+    for (; p != last; p += SLOT) see_slot(&so_far, load64(p), by_kind, !!empty);
     if (empty) *empty = so_far.empty;
-    return (so_far.seen & 0x100808080fc) == 0;
+    return ((so_far.seen | so_far.roomed) & (0x100808080fc | (uint64_t)NUMBERED << 56)) == 0;
 }
 
 INLINE unsigned front(const lent *d, int named, size_t *empty) {
@@ -82,19 +89,22 @@ INLINE size_t lowest_empty(const lent *d) {
     return d->slots;
 }
 
+#ifndef IN_ORDER
 INLINE int held(const lent *d, unsigned a, unsigned b, unsigned pointer) {
     const uint32_t inc_dec = route(INC_DEC, a, b);
     EACH_SLOT(if (p[4] == pointer && route_of(p) == inc_dec) return 1;)
     return 0;
 }
+#endif
 
-INLINE desk_answer post(const lent *d, size_t slot, unsigned kind, unsigned from, unsigned to, unsigned third, unsigned pointer) {
+INLINE call_answer post(const lent *d, size_t slot, unsigned kind, unsigned from, unsigned to, unsigned third, unsigned pointer) {
     const uint32_t word = route(kind, from, to) | third << 24;
     uint8_t *at = d->pool + slot * SLOT;
-    desk_answer r = {0, (uint16_t)slot, 0, {0, 0, 0, 0, (uint8_t)pointer}};
+    call_answer r = {0, (uint16_t)slot, 0, {0, 0, 0, 0, (uint8_t)pointer}};
     __builtin_memcpy(r.message, &word, 4);
     __builtin_memcpy(at, &word, 4);
     at[4] = (uint8_t)pointer;
+    put_number(d, at, kind, from, to);
     return r;
 }
 

@@ -1,8 +1,8 @@
 /*
  * The desk for C. The parts of document 01 are named with each call, and the desk keeps none of them.
- * A length counts elements: counters of `send`, counts of a sheet, bytes of the others.
+ * A length counts elements: counters of `send`, numbers of `to_post` and `to_receive`, counts of a sheet, bytes of the others.
  * A null pointer with length 0 is an empty part; parts do not overlap.
- * Counters and counts are aligned, as any uint16_t and uint32_t object is.
+ * Counters, numbers and counts are aligned, as any uint16_t and uint32_t object is.
  */
 #ifndef POINTER_DESK_H
 #define POINTER_DESK_H
@@ -36,11 +36,15 @@ enum {
     DESK_TOO_LONG = 17,
     DESK_BAD_BOOK = 18,
     DESK_TWINS = 19,
-    DESK_NOT_LISTED = 20
+    DESK_NOT_LISTED = 20,
+    DESK_OUT_OF_ORDER = 21
 };
 
 /* What the host lends: the bytes of a slot. Share and sheet: the counts of a sheet. */
 enum { DESK_SLOT_BYTES = 5, DESK_SHEET_COUNTS = 192 };
+
+/* In order: the bytes of a slot (a message, then its number, high byte first), and of an answer's message, which has no number. */
+enum { DESK_ORDERED_SLOT_BYTES = 7, DESK_ORDERED_MESSAGE_BYTES = 5 };
 
 /* Lines: the bytes of a call, the characters of its line with the newline, the output of a run. */
 enum { DESK_CALL_BYTES = 4, DESK_LINE_CHARACTERS = 9, DESK_RUN_ROOM = 139264 };
@@ -55,6 +59,14 @@ typedef struct {
     uint16_t empty;
     uint8_t message[DESK_SLOT_BYTES];
 } desk_answer;
+
+/* In order: the fields of desk_answer. The number of a posted message is read in slot `value` of the pool. */
+typedef struct {
+    uint8_t number;
+    uint16_t value;
+    uint16_t empty;
+    uint8_t message[DESK_ORDERED_MESSAGE_BYTES];
+} desk_ordered_answer;
 
 /* Share and sheet: a refusal number, and one signed whole number. */
 typedef struct {
@@ -112,6 +124,54 @@ desk_share_answer desk_share(uint8_t sites, const uint8_t *owners, size_t owners
 uint8_t desk_sheet(uint8_t sites, const uint8_t *owners, size_t owners_len,
                    const uint16_t *send, size_t send_len, const uint8_t *receive, size_t receive_len,
                    const uint8_t *pool, size_t pool_len, uint8_t pointer, uint32_t *sheet, size_t sheet_len);
+
+/*
+ * The in-order desk (document 02, Three), for links that deliver in order: slots of 7 bytes, and two tables of S x S numbers,
+ * next to post and next to receive, pair (a, b) at a x S + b. A message that is not its pair's next gives 21; 9 is never given.
+ */
+
+/* In order: an opening; all numbers become 0. */
+desk_ordered_answer desk_ordered_open(uint8_t sites, const uint8_t *owners, size_t owners_len,
+                                      uint16_t *send, size_t send_len, uint8_t *receive, size_t receive_len,
+                                      uint8_t *pool, size_t pool_len, uint16_t *to_post, size_t to_post_len,
+                                      uint16_t *to_receive, size_t to_receive_len);
+
+/* In order: make copy. */
+desk_ordered_answer desk_ordered_make_copy(uint8_t sites, const uint8_t *owners, size_t owners_len,
+                                           uint16_t *send, size_t send_len, const uint8_t *receive, size_t receive_len,
+                                           uint8_t *pool, size_t pool_len, uint16_t *to_post, size_t to_post_len,
+                                           const uint16_t *to_receive, size_t to_receive_len, uint8_t from, uint8_t to, uint8_t pointer);
+
+/* In order: receive. */
+desk_ordered_answer desk_ordered_receive(uint8_t sites, const uint8_t *owners, size_t owners_len,
+                                         uint16_t *send, size_t send_len, uint8_t *receive, size_t receive_len,
+                                         uint8_t *pool, size_t pool_len, uint16_t *to_post, size_t to_post_len,
+                                         uint16_t *to_receive, size_t to_receive_len, uint16_t slot);
+
+/* In order: delete. */
+desk_ordered_answer desk_ordered_delete(uint8_t sites, const uint8_t *owners, size_t owners_len,
+                                        const uint16_t *send, size_t send_len, uint8_t *receive, size_t receive_len,
+                                        uint8_t *pool, size_t pool_len, uint16_t *to_post, size_t to_post_len,
+                                        const uint16_t *to_receive, size_t to_receive_len, uint8_t site, uint8_t pointer);
+
+/* In order: ask. */
+desk_ordered_answer desk_ordered_ask(uint8_t sites, const uint8_t *owners, size_t owners_len,
+                                     const uint16_t *send, size_t send_len, const uint8_t *receive, size_t receive_len,
+                                     const uint8_t *pool, size_t pool_len, const uint16_t *to_post, size_t to_post_len,
+                                     const uint16_t *to_receive, size_t to_receive_len, uint8_t site, uint8_t pointer);
+
+/* In order: the share of a site; 0 after a refusal. */
+desk_share_answer desk_ordered_share(uint8_t sites, const uint8_t *owners, size_t owners_len,
+                                     const uint16_t *send, size_t send_len, const uint8_t *receive, size_t receive_len,
+                                     const uint8_t *pool, size_t pool_len, const uint16_t *to_post, size_t to_post_len,
+                                     const uint16_t *to_receive, size_t to_receive_len, uint8_t site, uint8_t pointer);
+
+/* In order: the sheet of a pointer, as desk_sheet writes it. */
+uint8_t desk_ordered_sheet(uint8_t sites, const uint8_t *owners, size_t owners_len,
+                           const uint16_t *send, size_t send_len, const uint8_t *receive, size_t receive_len,
+                           const uint8_t *pool, size_t pool_len, const uint16_t *to_post, size_t to_post_len,
+                           const uint16_t *to_receive, size_t to_receive_len, uint8_t pointer,
+                           uint32_t *sheet, size_t sheet_len);
 
 /* The address book: the address of a pointer; at 0 with length 0 after a refusal. */
 desk_part desk_book_address(uint8_t sites, const uint8_t *owners, size_t owners_len,

@@ -55,6 +55,7 @@ refusals! {
     BadBook = 18,
     Twins = 19,
     NotListed = 20,
+    OutOfOrder = 21,
 }
 
 // A posted message (document 01, The calls).
@@ -100,6 +101,18 @@ pub struct Lent<'a> {
     pub pool: &'a mut [u8],
 }
 
+// What the host lends to the in-order desk: slots of seven bytes, and the next numbers to post and to receive, pair (a, b) at a x S + b
+// (document 02, Three). The number of a posted message is read in slot `value` of the pool.
+pub struct LentInOrder<'a> {
+    pub sites: u8,
+    pub owners: &'a [u8],
+    pub send: &'a mut [u16],
+    pub receive: &'a mut [u8],
+    pub pool: &'a mut [u8],
+    pub to_post: &'a mut [u16],
+    pub to_receive: &'a mut [u16],
+}
+
 // An address book, with S and the owners of its pointers (document 01, The address book).
 #[derive(Clone, Copy)]
 pub struct Book<'a> {
@@ -110,6 +123,14 @@ pub struct Book<'a> {
 
 #[repr(C)]
 struct CAnswer {
+    number: u8,
+    value: u16,
+    empty: u16,
+    message: [u8; 5],
+}
+
+#[repr(C)]
+struct COrderedAnswer {
     number: u8,
     value: u16,
     empty: u16,
@@ -169,6 +190,42 @@ extern "C" {
         receive: *const u8, receive_len: usize, pool: *const u8, pool_len: usize, pointer: u8,
         sheet: *mut u32, sheet_len: usize,
     ) -> u8;
+    fn desk_ordered_open(
+        sites: u8, owners: *const u8, owners_len: usize, send: *mut u16, send_len: usize,
+        receive: *mut u8, receive_len: usize, pool: *mut u8, pool_len: usize,
+        to_post: *mut u16, to_post_len: usize, to_receive: *mut u16, to_receive_len: usize,
+    ) -> COrderedAnswer;
+    fn desk_ordered_make_copy(
+        sites: u8, owners: *const u8, owners_len: usize, send: *mut u16, send_len: usize,
+        receive: *const u8, receive_len: usize, pool: *mut u8, pool_len: usize,
+        to_post: *mut u16, to_post_len: usize, to_receive: *const u16, to_receive_len: usize, from: u8, to: u8, pointer: u8,
+    ) -> COrderedAnswer;
+    fn desk_ordered_receive(
+        sites: u8, owners: *const u8, owners_len: usize, send: *mut u16, send_len: usize,
+        receive: *mut u8, receive_len: usize, pool: *mut u8, pool_len: usize,
+        to_post: *mut u16, to_post_len: usize, to_receive: *mut u16, to_receive_len: usize, slot: u16,
+    ) -> COrderedAnswer;
+    fn desk_ordered_delete(
+        sites: u8, owners: *const u8, owners_len: usize, send: *const u16, send_len: usize,
+        receive: *mut u8, receive_len: usize, pool: *mut u8, pool_len: usize,
+        to_post: *mut u16, to_post_len: usize, to_receive: *const u16, to_receive_len: usize, site: u8, pointer: u8,
+    ) -> COrderedAnswer;
+    fn desk_ordered_ask(
+        sites: u8, owners: *const u8, owners_len: usize, send: *const u16, send_len: usize,
+        receive: *const u8, receive_len: usize, pool: *const u8, pool_len: usize,
+        to_post: *const u16, to_post_len: usize, to_receive: *const u16, to_receive_len: usize, site: u8, pointer: u8,
+    ) -> COrderedAnswer;
+    fn desk_ordered_share(
+        sites: u8, owners: *const u8, owners_len: usize, send: *const u16, send_len: usize,
+        receive: *const u8, receive_len: usize, pool: *const u8, pool_len: usize,
+        to_post: *const u16, to_post_len: usize, to_receive: *const u16, to_receive_len: usize, site: u8, pointer: u8,
+    ) -> CShare;
+    fn desk_ordered_sheet(
+        sites: u8, owners: *const u8, owners_len: usize, send: *const u16, send_len: usize,
+        receive: *const u8, receive_len: usize, pool: *const u8, pool_len: usize,
+        to_post: *const u16, to_post_len: usize, to_receive: *const u16, to_receive_len: usize, pointer: u8,
+        sheet: *mut u32, sheet_len: usize,
+    ) -> u8;
     fn desk_book_address(
         sites: u8, owners: *const u8, owners_len: usize, book: *const u8, book_len: usize, pointer: u8,
     ) -> CPart;
@@ -212,6 +269,25 @@ macro_rules! reading {
     };
 }
 
+// The same of the in-order desk: its tables of numbers come after the pool, each a slice and its length.
+macro_rules! writing_in_order {
+    ($call:ident, $lent:expr $(, $argument:expr)*) => {
+        writing!(
+            $call, $lent, $lent.to_post.as_mut_ptr(), $lent.to_post.len(),
+            $lent.to_receive.as_mut_ptr(), $lent.to_receive.len() $(, $argument)*
+        )
+    };
+}
+
+macro_rules! reading_in_order {
+    ($call:ident, $lent:expr $(, $argument:expr)*) => {
+        reading!(
+            $call, $lent, $lent.to_post.as_ptr(), $lent.to_post.len(),
+            $lent.to_receive.as_ptr(), $lent.to_receive.len() $(, $argument)*
+        )
+    };
+}
+
 // A question to the book.
 macro_rules! asking {
     ($call:ident, $book:expr $(, $argument:expr)*) => {
@@ -246,12 +322,28 @@ fn unless_refused<T>(number: u8, asked: impl FnOnce() -> T) -> Result<T, Refusal
     }
 }
 
+// An answer of its fields.
+fn answer_of(number: u8, value: u16, empty: u16, message: [u8; 5]) -> Answer {
+    unless_refused(number, || Accepted { value, empty: NonZeroU16::new(empty), message: Message::of(message) })
+}
+
 fn answer(a: CAnswer) -> Answer {
-    unless_refused(a.number, || Accepted {
-        value: a.value,
-        empty: NonZeroU16::new(a.empty),
-        message: Message::of(a.message),
-    })
+    answer_of(a.number, a.value, a.empty, a.message)
+}
+
+fn answer_in_order(a: COrderedAnswer) -> Answer {
+    answer_of(a.number, a.value, a.empty, a.message)
+}
+
+fn share(a: CShare) -> Result<i32, Refusal> {
+    unless_refused(a.number, || a.share)
+}
+
+// A sheet that a call fills, which is given its first count and how many there are: all 3 x 64 of this array.
+fn sheet(fill: impl FnOnce(*mut u32, usize) -> u8) -> Result<Sheet, Refusal> {
+    let mut sheet: Sheet = [[0; 64]; 3];
+    let number = fill(sheet.as_mut_ptr().cast(), 3 * 64);
+    unless_refused(number, || sheet)
 }
 
 impl Lent<'_> {
@@ -277,15 +369,42 @@ impl Lent<'_> {
     }
 
     pub fn share(&self, site: u8, pointer: u8) -> Result<i32, Refusal> {
-        let a = reading!(desk_share, self, site, pointer);
-        unless_refused(a.number, || a.share)
+        share(reading!(desk_share, self, site, pointer))
     }
 
     pub fn sheet(&self, pointer: u8) -> Result<Sheet, Refusal> {
-        // Safe for the sheet too: its pointer goes over all 3 x 64 counts of this array.
-        let mut sheet: Sheet = [[0; 64]; 3];
-        let number = reading!(desk_sheet, self, pointer, sheet.as_mut_ptr().cast(), 3 * 64);
-        unless_refused(number, || sheet)
+        sheet(|counts, len| reading!(desk_sheet, self, pointer, counts, len))
+    }
+}
+
+impl LentInOrder<'_> {
+    pub fn open(&mut self) -> Answer {
+        answer_in_order(writing_in_order!(desk_ordered_open, self))
+    }
+
+    pub fn make_copy(&mut self, from: u8, to: u8, pointer: u8) -> Answer {
+        answer_in_order(writing_in_order!(desk_ordered_make_copy, self, from, to, pointer))
+    }
+
+    pub fn receive(&mut self, slot: u16) -> Answer {
+        answer_in_order(writing_in_order!(desk_ordered_receive, self, slot))
+    }
+
+    pub fn delete(&mut self, site: u8, pointer: u8) -> Answer {
+        answer_in_order(writing_in_order!(desk_ordered_delete, self, site, pointer))
+    }
+
+    // The value is 1 where nobody elsewhere points at it, else 0.
+    pub fn ask(&self, site: u8, pointer: u8) -> Answer {
+        answer_in_order(reading_in_order!(desk_ordered_ask, self, site, pointer))
+    }
+
+    pub fn share(&self, site: u8, pointer: u8) -> Result<i32, Refusal> {
+        share(reading_in_order!(desk_ordered_share, self, site, pointer))
+    }
+
+    pub fn sheet(&self, pointer: u8) -> Result<Sheet, Refusal> {
+        sheet(|counts, len| reading_in_order!(desk_ordered_sheet, self, pointer, counts, len))
     }
 }
 

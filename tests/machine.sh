@@ -44,5 +44,5 @@ say_machine() {
     esac
 }
 
-# library FOLDER: the proved archive, put there.
-library() { rt staticlib pointer_desk && cp target/staticlib/libpointer_desk.a "$1"; }
+# library FOLDER: the proved archive, put there; one test at a time makes it.
+library() { mkdir -p target && flock target/making rt staticlib pointer_desk && cp target/staticlib/libpointer_desk.a "$1"; }

@@ -12,9 +12,16 @@ static uint16_t send[2];
 static uint8_t receive[2], pool[5];
 static uint32_t sheet[DESK_SHEET_COUNTS];
 
+/* The same in order: one empty slot, and the numbers of four pairs. */
+static uint8_t numbered[DESK_ORDERED_SLOT_BYTES];
+static uint16_t to_post[4], to_receive[4];
+
 static void set_tables(void) {
     memset(send, 0, sizeof send);
     memset(pool, 0, sizeof pool);
+    memset(numbered, 0, sizeof numbered);
+    memset(to_post, 0x11, sizeof to_post);
+    memset(to_receive, 0x22, sizeof to_receive);
     receive[0] = receive[1] = 1;
     memset(sheet, 0xA5, sizeof sheet);
 }
@@ -22,6 +29,13 @@ static void set_tables(void) {
 static int tables_kept(void) {
     static const uint8_t none[5] = {0};
     return !send[0] && !send[1] && receive[0] == 1 && receive[1] == 1 && !memcmp(pool, none, 5);
+}
+
+static int numbers_kept(void) {
+    static const uint8_t none[DESK_ORDERED_SLOT_BYTES] = {0};
+    int same = !memcmp(numbered, none, sizeof none);
+    for (int pair = 0; pair < 4; pair++) same &= to_post[pair] == 0x1111 && to_receive[pair] == 0x2222;
+    return same;
 }
 
 static int sheet_is(uint32_t count) {
@@ -38,10 +52,18 @@ static void expect(const char *what, int right) {
     set_tables();
 }
 
-/* Whether an answer has this number and value, tells no empty slots and has no message. */
-static int is(desk_answer a, unsigned number, unsigned value) {
+/* Whether an answer, of either desk, has this number and value, tells no empty slots and has no message. */
+static int fields_are(unsigned n, unsigned value, unsigned empty, const uint8_t *message, unsigned number, unsigned wanted) {
     static const uint8_t none[5] = {0};
-    return a.number == number && a.value == value && a.empty == 0 && !memcmp(a.message, none, 5);
+    return n == number && value == wanted && empty == 0 && !memcmp(message, none, 5);
+}
+
+static int is(desk_answer a, unsigned number, unsigned value) {
+    return fields_are(a.number, a.value, a.empty, a.message, number, value);
+}
+
+static int is_ordered(desk_ordered_answer a, unsigned number, unsigned value) {
+    return fields_are(a.number, a.value, a.empty, a.message, number, value);
 }
 
 #define OWNERS owners, 1
@@ -53,6 +75,12 @@ static int is(desk_answer a, unsigned number, unsigned value) {
 #define ALL_NO NO, NO, NO, NO
 #define REFUSED(call, number) expect(#call " gives " #number, is(call, number, 0) && tables_kept())
 #define ACCEPTED(call, value) expect(#call " is accepted with " #value, is(call, 0, value))
+
+#define NUMBERED numbered, sizeof numbered
+#define TO_POST to_post, 4
+#define TO_RECEIVE to_receive, 4
+#define REFUSED_IN_ORDER(call, number) expect(#call " gives " #number, is_ordered(call, number, 0) && tables_kept() && numbers_kept())
+#define ACCEPTED_IN_ORDER(call, value) expect(#call " is accepted with " #value, is_ordered(call, 0, value))
 
 /* With every part null, G is 0 and there is no slot: an opening is good, and every name is too large. */
 static void all_parts(void) {
@@ -114,6 +142,71 @@ static void no_pool(void) {
     expect("an opening without a pool", is(opened, 0, 0) && !send[0] && receive[0] == 1 && receive[1] == 0);
 }
 
+/* In order, with every part null: there are S x S numbers of a pair wherever there is a site. */
+static void all_parts_in_order(void) {
+    REFUSED_IN_ORDER(desk_ordered_open(0, ALL_NO, NO, NO), DESK_BAD_SHAPE);
+    REFUSED_IN_ORDER(desk_ordered_open(2, ALL_NO, NO, NO), DESK_BAD_SHAPE);
+    REFUSED_IN_ORDER(desk_ordered_make_copy(2, ALL_NO, NO, NO, 0, 1, 0), DESK_BAD_SHAPE);
+    REFUSED_IN_ORDER(desk_ordered_receive(2, ALL_NO, NO, NO, 0), DESK_BAD_SHAPE);
+    REFUSED_IN_ORDER(desk_ordered_delete(2, ALL_NO, NO, NO, 1, 0), DESK_BAD_SHAPE);
+    REFUSED_IN_ORDER(desk_ordered_ask(2, ALL_NO, NO, NO, 0, 0), DESK_BAD_SHAPE);
+    desk_share_answer a = desk_ordered_share(2, ALL_NO, NO, NO, 1, 0);
+    expect("in order, share of nothing", a.number == DESK_BAD_SHAPE && a.share == 0);
+    const size_t all = DESK_SHEET_COUNTS;
+    expect("in order, sheet of nothing", desk_ordered_sheet(2, ALL_NO, NO, NO, 0, sheet, all) == DESK_BAD_SHAPE && sheet_is(0));
+    expect("in order, sheet that is null", desk_ordered_sheet(2, ALL_NO, NO, NO, 0, NO) == DESK_BAD_SHAPE);
+}
+
+/* In order, every part null but the numbers: an opening is good, and every name is too large. */
+static void all_parts_but_numbers(void) {
+    desk_ordered_answer opened = desk_ordered_open(2, ALL_NO, TO_POST, TO_RECEIVE);
+    static const uint16_t none[4] = {0};
+    expect("in order, an opening of numbers alone", is_ordered(opened, 0, 0) && !memcmp(to_post, none, 8) && !memcmp(to_receive, none, 8));
+    REFUSED_IN_ORDER(desk_ordered_make_copy(2, ALL_NO, TO_POST, TO_RECEIVE, 0, 1, 0), DESK_BAD_NAME);
+    REFUSED_IN_ORDER(desk_ordered_receive(2, ALL_NO, TO_POST, TO_RECEIVE, 0), DESK_BAD_NAME);
+    REFUSED_IN_ORDER(desk_ordered_delete(2, ALL_NO, TO_POST, TO_RECEIVE, 1, 0), DESK_BAD_NAME);
+    REFUSED_IN_ORDER(desk_ordered_ask(2, ALL_NO, TO_POST, TO_RECEIVE, 0, 0), DESK_BAD_NAME);
+    expect("in order, share of no pointer", desk_ordered_share(2, ALL_NO, TO_POST, TO_RECEIVE, 1, 0).number == DESK_BAD_NAME);
+    uint8_t n = desk_ordered_sheet(2, ALL_NO, TO_POST, TO_RECEIVE, 0, sheet, DESK_SHEET_COUNTS);
+    expect("in order, sheet of no pointer", n == DESK_BAD_NAME && sheet_is(0));
+}
+
+/* In order, one part null among good ones. ASKED: what is expected of a call and its number. */
+#define ONE_PART_IN_ORDER(ASKED, call, ...)                                                            \
+    ASKED(call(2, NO, SEND, RECEIVE, NUMBERED, TO_POST, TO_RECEIVE __VA_ARGS__), DESK_BAD_SHAPE);      \
+    ASKED(call(2, OWNERS, NO, RECEIVE, NUMBERED, TO_POST, TO_RECEIVE __VA_ARGS__), DESK_BAD_SHAPE);    \
+    ASKED(call(2, OWNERS, SEND, NO, NUMBERED, TO_POST, TO_RECEIVE __VA_ARGS__), DESK_BAD_SHAPE);       \
+    ASKED(call(2, OWNERS, SEND, RECEIVE, NUMBERED, NO, TO_RECEIVE __VA_ARGS__), DESK_BAD_SHAPE);       \
+    ASKED(call(2, OWNERS, SEND, RECEIVE, NUMBERED, TO_POST, NO __VA_ARGS__), DESK_BAD_SHAPE)
+#define SHARE_REFUSED(call, wanted) expect(#call " gives " #wanted, call.number == wanted)
+#define SHEET_REFUSED(call, wanted) expect(#call " gives " #wanted, call == wanted && sheet_is(0))
+
+static void one_part_in_order(void) {
+    ONE_PART_IN_ORDER(REFUSED_IN_ORDER, desk_ordered_open, );
+    ONE_PART_IN_ORDER(REFUSED_IN_ORDER, desk_ordered_make_copy, COMMA 0, 1, 0);
+    ONE_PART_IN_ORDER(REFUSED_IN_ORDER, desk_ordered_receive, COMMA 0);
+    ONE_PART_IN_ORDER(REFUSED_IN_ORDER, desk_ordered_delete, COMMA 1, 0);
+    ONE_PART_IN_ORDER(REFUSED_IN_ORDER, desk_ordered_ask, COMMA 0, 0);
+    ONE_PART_IN_ORDER(SHARE_REFUSED, desk_ordered_share, COMMA 1, 0);
+    ONE_PART_IN_ORDER(SHEET_REFUSED, desk_ordered_sheet, COMMA 0, sheet, DESK_SHEET_COUNTS);
+}
+
+/* In order, a pool of 0 slots. */
+#define NO_POOL 2, OWNERS, SEND, RECEIVE, NO, TO_POST, TO_RECEIVE
+
+static void no_pool_in_order(void) {
+    REFUSED_IN_ORDER(desk_ordered_make_copy(NO_POOL, 0, 1, 0), DESK_POOL_FULL);
+    REFUSED_IN_ORDER(desk_ordered_receive(NO_POOL, 0), DESK_BAD_NAME);
+    REFUSED_IN_ORDER(desk_ordered_delete(NO_POOL, 1, 0), DESK_POOL_FULL);
+    ACCEPTED_IN_ORDER(desk_ordered_ask(NO_POOL, 0, 0), 1);
+    desk_share_answer a = desk_ordered_share(NO_POOL, 1, 0);
+    expect("in order, share without a pool is the cell", a.number == 0 && a.share == 1);
+    expect("in order, sheet without a pool", desk_ordered_sheet(NO_POOL, 0, sheet, DESK_SHEET_COUNTS) == 0 && sheet_is(0));
+    send[0] = 7;
+    desk_ordered_answer opened = desk_ordered_open(NO_POOL);
+    expect("in order, an opening without a pool", is_ordered(opened, 0, 0) && !send[0] && !receive[1] && !to_post[1] && !to_receive[3]);
+}
+
 static int no_part(desk_part p, unsigned number) { return p.number == number && p.at == 0 && p.length == 0; }
 
 static void books(void) {
@@ -154,6 +247,10 @@ int main(void) {
     one_part();
     one_part_of_a_sheet();
     no_pool();
+    all_parts_in_order();
+    all_parts_but_numbers();
+    one_part_in_order();
+    no_pool_in_order();
     books();
     lines();
     runs();

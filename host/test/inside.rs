@@ -1,4 +1,4 @@
-// What pointer_desk.rs keeps to itself: the layouts of its four C structs, and numbers and messages that nobody lists.
+// What pointer_desk.rs keeps to itself: the layouts of its five C structs, and numbers and messages that nobody lists.
 #[allow(dead_code)]
 mod module {
     use std::mem::{align_of, size_of};
@@ -15,8 +15,9 @@ mod module {
 
     // The lines that layout.c prints.
     pub fn layouts() {
-        let (a, s, p, l) = (
+        let (a, o, s, p, l) = (
             CAnswer { number: 0, value: 0, empty: 0, message: [0; 5] },
+            COrderedAnswer { number: 0, value: 0, empty: 0, message: [0; 5] },
             CShare { number: 0, share: 0 },
             CPart { number: 0, at: 0, length: 0 },
             CLine { number: 0, ended: 0, call: [0; 4], at: 0 },
@@ -26,6 +27,12 @@ mod module {
         place("value", &a, &a.value);
         place("empty", &a, &a.empty);
         place("message", &a, &a.message);
+        println!();
+        whole::<COrderedAnswer>("ordered answer");
+        place("number", &o, &o.number);
+        place("value", &o, &o.value);
+        place("empty", &o, &o.empty);
+        place("message", &o, &o.message);
         println!();
         whole::<CShare>("share");
         place("number", &s, &s.number);
@@ -44,14 +51,14 @@ mod module {
         println!();
     }
 
-    // Every number but 0 is a refusal that keeps its number; those above 20 are unlisted.
+    // Every number but 0 is a refusal that keeps its number; those above 21 are unlisted.
     pub fn numbers_are_kept() {
         assert_eq!(Refusal::of(0), None);
         for number in 1..=255 {
             let refusal = Refusal::of(number).expect("a refusal");
             assert_eq!(refusal.number(), number);
-            assert_eq!(refusal == Refusal::Unlisted(number), number > 20);
-            assert_eq!(Refusal::LISTED.contains(&refusal), number <= 20);
+            assert_eq!(refusal == Refusal::Unlisted(number), number > 21);
+            assert_eq!(Refusal::LISTED.contains(&refusal), number <= 21);
         }
     }
 

@@ -1,4 +1,4 @@
-/* The four answers as C lays them out: size, alignment, and the place of each field. */
+/* The five answers as C lays them out: size, alignment, and the place of each field. */
 #include <stdio.h>
 
 #include "pointer_desk.h"
@@ -6,9 +6,12 @@
 #define PLACE(type, field) printf(" %s %zu", #field, offsetof(type, field))
 #define WHOLE(name, type) printf("%s: size %zu align %zu", name, sizeof(type), _Alignof(type))
 
+#define ANSWER(name, type) WHOLE(name, type), PLACE(type, number), PLACE(type, value), PLACE(type, empty), PLACE(type, message)
+
 int main(void) {
-    WHOLE("answer", desk_answer), PLACE(desk_answer, number), PLACE(desk_answer, value), PLACE(desk_answer, empty);
-    PLACE(desk_answer, message);
+    ANSWER("answer", desk_answer);
+    putchar('\n');
+    ANSWER("ordered answer", desk_ordered_answer);
     putchar('\n');
     WHOLE("share", desk_share_answer), PLACE(desk_share_answer, number), PLACE(desk_share_answer, share);
     putchar('\n');

@@ -6,7 +6,7 @@ mod pointer_desk;
 use std::num::NonZeroU16;
 
 use pointer_desk::Message::{Copy, Dec, IncDec};
-use pointer_desk::{read_line, run, write_line, Accepted, Answer, Book, Lent, Next, Refusal, Sheet, RUN_ROOM};
+use pointer_desk::{read_line, run, write_line, Accepted, Answer, Book, Lent, LentInOrder, Next, Refusal, Sheet, RUN_ROOM};
 
 struct Tally {
     passed: usize,
@@ -48,7 +48,7 @@ struct Tables {
 
 impl Tables {
     // One pointer of owner 0, which the other sites hold as said.
-    fn new(sites: u8, cells: &[u8], pool: &[[u8; 5]]) -> Tables {
+    fn new<const SLOT: usize>(sites: u8, cells: &[u8], pool: &[[u8; SLOT]]) -> Tables {
         Tables { sites, owners: vec![0], send: vec![0; cells.len()], receive: cells.to_vec(), pool: pool.concat() }
     }
 
@@ -63,11 +63,49 @@ impl Tables {
     }
 }
 
+// The same with the next numbers to post and to receive (document 02, Three).
+#[derive(Clone, PartialEq)]
+struct InOrder {
+    tables: Tables,
+    to_post: Vec<u16>,
+    to_receive: Vec<u16>,
+}
+
+impl InOrder {
+    // All numbers are 0 but those of the pairs that are given.
+    fn new(tables: Tables, to_post: &[(usize, u16)], to_receive: &[(usize, u16)]) -> InOrder {
+        let numbers = |given: &[(usize, u16)]| {
+            let mut all = vec![0; tables.sites as usize * tables.sites as usize];
+            given.iter().for_each(|&(pair, number)| all[pair] = number);
+            all
+        };
+        InOrder { to_post: numbers(to_post), to_receive: numbers(to_receive), tables }
+    }
+
+    fn lend(&mut self) -> LentInOrder<'_> {
+        LentInOrder {
+            sites: self.tables.sites,
+            owners: &self.tables.owners,
+            send: &mut self.tables.send,
+            receive: &mut self.tables.receive,
+            pool: &mut self.tables.pool,
+            to_post: &mut self.to_post,
+            to_receive: &mut self.to_receive,
+        }
+    }
+}
+
 // A call over tables is refused so, and every table holds what it held.
 fn refused(t: &mut Tally, name: &str, tables: &Tables, call: impl Fn(&mut Lent) -> Answer, why: Refusal) {
     let mut lent = tables.clone();
     let answer = call(&mut lent.lend());
     t.expect(name, answer == Err(why) && lent == *tables);
+}
+
+fn refused_in_order(t: &mut Tally, name: &str, desk: &InOrder, call: impl Fn(&mut LentInOrder) -> Answer, why: Refusal) {
+    let mut lent = desk.clone();
+    let answer = call(&mut lent.lend());
+    t.expect(name, answer == Err(why) && lent == *desk);
 }
 
 // Document 01, Lines: the fourteen lines of its case, call by call.
@@ -142,6 +180,73 @@ fn share_and_sheet(t: &mut Tally) {
     t.expect("a sheet of pointer 1", mixed.lend().sheet(1) == Err(Refusal::BadName));
 }
 
+// Document 02, Three: an INC_DEC behind an older DEC of its pair. Held would turn the DEC down; in order the INC_DEC waits.
+fn behind_an_older_dec(t: &mut Tally) {
+    let mut lent = InOrder::new(Tables::new(3, &[9, 9, 9], &[[9; 7]; 4]), &[(1, 9)], &[(8, 9)]);
+    let mut desk = lent.lend();
+    t.expect("in order, it opens", desk.open() == accepted(0));
+    t.expect("in order, a copy to 1", desk.make_copy(0, 1, 0) == told(4, 0, Copy { from: 0, to: 1, pointer: 0 }));
+    t.expect("in order, it arrives", desk.receive(0) == accepted(0));
+    t.expect("in order, a copy to 2", desk.make_copy(0, 2, 0) == told(4, 0, Copy { from: 0, to: 2, pointer: 0 }));
+    t.expect("in order, it arrives too", desk.receive(0) == accepted(0));
+    t.expect("in order, a delete at 1", desk.delete(1, 0) == told(4, 0, Dec { from: 1, to: 0, pointer: 0 }));
+    t.expect("in order, a fresh copy to 1", desk.make_copy(2, 1, 0) == told(3, 1, Copy { from: 2, to: 1, pointer: 0 }));
+    t.expect("in order, it arrives as the first", desk.receive(1) == posted(1, IncDec { from: 1, to: 0, third: 2, pointer: 0 }));
+    t.expect("in order, the INC_DEC is early", desk.receive(1) == Err(Refusal::OutOfOrder));
+    t.expect("in order, the DEC is not", desk.receive(0) == accepted(0));
+    t.expect("in order, then the INC_DEC", desk.receive(1) == posted(1, Dec { from: 0, to: 2, pointer: 0 }));
+    t.expect("in order, ask", desk.ask(0, 0) == accepted(0));
+    let tables = Tables { send: vec![2, 0, 1], ..Tables::new(3, &[1, 1, 1], &[[0; 7], [2, 0, 2, 0, 0, 0, 1], [0; 7], [0; 7]]) };
+    let after = InOrder::new(tables, &[(1, 1), (2, 2), (3, 2), (7, 1)], &[(1, 1), (2, 1), (3, 2), (7, 1)]);
+    t.expect("in order, the tables after", lent == after);
+}
+
+// Document 02, Three: numbers wrap, and stand last in a slot, the high byte first.
+fn numbers(t: &mut Tally) {
+    let copy = Copy { from: 0, to: 1, pointer: 0 };
+    let mut lent = InOrder::new(Tables::new(2, &[1, 0], &[[0; 7]; 2]), &[(1, 65535)], &[(1, 65535)]);
+    t.expect("number 65,535", lent.lend().make_copy(0, 1, 0) == told(2, 0, copy));
+    t.expect("then number 0", lent.lend().make_copy(0, 1, 0) == told(1, 1, copy));
+    t.expect("as slots", lent.tables.pool == [[1, 0, 1, 0, 0, 255, 255], [1, 0, 1, 0, 0, 0, 0]].concat());
+    t.expect("and the next", lent.to_post == [0, 1, 0, 0]);
+    t.expect("0 waits for 65,535", lent.lend().receive(1) == Err(Refusal::OutOfOrder));
+    t.expect("65,535 arrives", lent.lend().receive(0) == accepted(0));
+    t.expect("then 0", lent.lend().receive(1) == posted(1, Dec { from: 1, to: 0, pointer: 0 }));
+    t.expect("and the next to receive", lent.to_receive == [0, 1, 0, 0] && lent.to_post == [0, 1, 1, 0]);
+}
+
+// Document 02, Three: the refusals of the in-order desk.
+fn refusals_in_order(t: &mut Tally) {
+    let of = |slots: &[[u8; 7]]| InOrder::new(Tables::new(3, &[1, 1, 0], slots), &[], &[]);
+    let good = of(&[[0; 7], [1, 0, 2, 0, 0, 0, 0]]);
+    let short = InOrder { to_post: vec![0; 8], ..good.clone() };
+    let five = InOrder { tables: Tables::new(3, &[1, 1, 0], &[[0; 5]]), ..good.clone() };
+    refused_in_order(t, "in order, open, 8 numbers to post", &short, |d| d.open(), Refusal::BadShape);
+    refused_in_order(t, "in order, a slot of five bytes", &five, |d| d.make_copy(0, 1, 0), Refusal::BadShape);
+    refused_in_order(t, "in order, a number in an empty slot", &of(&[[0, 0, 0, 0, 0, 0, 1]]), |d| d.ask(0, 0), Refusal::BadTable);
+    refused_in_order(t, "in order, copy of pointer 1", &good, |d| d.make_copy(0, 1, 1), Refusal::BadName);
+    refused_in_order(t, "in order, copy to a full pool", &of(&[[1, 0, 2, 0, 0, 7, 7]]), |d| d.make_copy(0, 1, 0), Refusal::PoolFull);
+    refused_in_order(t, "in order, receive of nothing", &good, |d| d.receive(0), Refusal::EmptySlot);
+    refused_in_order(t, "in order, number 256 for 0", &of(&[[1, 0, 2, 0, 0, 1, 0]]), |d| d.receive(0), Refusal::OutOfOrder);
+    refused_in_order(t, "in order, 21 before 4", &of(&[[1, 1, 1, 0, 0, 0, 1]]), |d| d.receive(0), Refusal::OutOfOrder);
+    refused_in_order(t, "in order, 4", &of(&[[1, 1, 1, 0, 0, 0, 0]]), |d| d.receive(0), Refusal::SameSite);
+    refused_in_order(t, "in order, 21 before 10", &of(&[[2, 1, 0, 0, 0, 0, 1]]), |d| d.receive(0), Refusal::OutOfOrder);
+    refused_in_order(t, "in order, 10", &of(&[[2, 1, 0, 0, 0, 0, 0]]), |d| d.receive(0), Refusal::CounterZero);
+    refused_in_order(t, "in order, delete at the owner", &good, |d| d.delete(0, 0), Refusal::IsOwner);
+    refused_in_order(t, "in order, ask elsewhere", &good, |d| d.ask(1, 0), Refusal::NotOwner);
+}
+
+// Document 02, Three: share and sheet look at no number.
+fn share_and_sheet_in_order(t: &mut Tally) {
+    let mut below = InOrder::new(Tables::new(2, &[1, 0], &[[3, 1, 0, 0, 0, 1, 2]]), &[], &[]);
+    t.expect("in order, a share of minus 1", below.lend().share(1, 0) == Ok(-1));
+    t.expect("in order, a share at the owner", below.lend().share(0, 0) == Err(Refusal::IsOwner));
+    let mut wanted: Sheet = [[0; 64]; 3];
+    wanted[2][0] = 1;
+    t.expect("in order, a sheet", below.lend().sheet(0) == Ok(wanted));
+    t.expect("in order, a sheet of pointer 1", below.lend().sheet(1) == Err(Refusal::BadName));
+}
+
 // Document 01, The address book.
 fn books(t: &mut Tally) {
     let book = Book { sites: 2, owners: &[0, 1], entries: b"\x02AB\x01C" };
@@ -167,6 +272,12 @@ fn empty_slices(t: &mut Tally) {
     refused(t, "an empty desk, ask", &none, |d| d.ask(0, 0), Refusal::BadName);
     t.expect("an empty desk, share", none.clone().lend().share(1, 0) == Err(Refusal::BadName));
     t.expect("an empty desk, sheet", none.clone().lend().sheet(0) == Err(Refusal::BadName));
+    let numbered = InOrder::new(none.clone(), &[], &[]);
+    t.expect("in order, an empty desk opens", numbered.clone().lend().open() == accepted(0));
+    refused_in_order(t, "in order, an empty desk, copy", &numbered, |d| d.make_copy(0, 1, 0), Refusal::BadName);
+    refused_in_order(t, "in order, an empty desk, receive", &numbered, |d| d.receive(0), Refusal::BadName);
+    let none_at_all = InOrder { to_post: vec![], to_receive: vec![], tables: none };
+    refused_in_order(t, "in order, no numbers", &none_at_all, |d| d.open(), Refusal::BadShape);
     let book = Book { sites: 1, owners: &[], entries: &[] };
     t.expect("an empty book, address", book.address(0) == Err(Refusal::BadName));
     t.expect("an empty book, check", book.check() == accepted(0));
@@ -219,12 +330,16 @@ fn main() {
     refusals(&mut t);
     counts(&mut t);
     share_and_sheet(&mut t);
+    behind_an_older_dec(&mut t);
+    numbers(&mut t);
+    refusals_in_order(&mut t);
+    share_and_sheet_in_order(&mut t);
     books(&mut t);
     empty_slices(&mut t);
     lines(&mut t);
     runs(&mut t);
-    let numbers: Vec<u8> = Refusal::LISTED.iter().map(|r| r.number()).collect();
-    t.expect("the numbers are 1 to 20", numbers == (1..=20).collect::<Vec<u8>>());
+    let listed: Vec<u8> = Refusal::LISTED.iter().map(|r| r.number()).collect();
+    t.expect("the numbers are 1 to 21", listed == (1..=21).collect::<Vec<u8>>());
     println!("{} passed, {} failed", t.passed, t.failed);
     std::process::exit((t.failed != 0 || t.passed == 0) as i32);
 }

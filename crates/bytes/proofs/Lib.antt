@@ -1,8 +1,6 @@
 -- What the proofs of the functions cite, and what is true of what they answer.
 pub mod OpeningLaws
 pub mod FrontLaws
-pub mod EffectLaws
-pub mod ReceiveLaws
 pub mod NoTwoOutcomes
 pub mod NoTwoAnswers
 pub mod ShareAndSheet

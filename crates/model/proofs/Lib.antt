@@ -8,6 +8,7 @@ pub mod PartLaws
 pub mod FlatLaws
 pub mod InWords
 pub mod FrontLaws
+pub mod ReadyLaws
 pub mod RowLaws
 pub mod Exactly
 pub mod EdgeLaws
@@ -19,7 +20,9 @@ pub mod MeaningLaws
 pub mod KeptLaws
 pub mod ReadsLaws
 pub mod CopyAndDelete
+pub mod EffectLaws
 pub mod ReplyLaws
+pub mod ReceiveLaws
 pub mod ReceiveWrites
 pub mod ReceiveTransition
 pub mod HeldLaws
@@ -44,19 +47,6 @@ pub mod EachLineOnce
 pub mod LinesExactly
 pub mod TheProgram
 pub mod TheDesk
-pub mod StampLaws
-pub mod LinkLaws
-pub mod Channels
-pub mod OrderedSlots
-pub mod OrderedLaws
-pub mod OrderedWords
-pub mod PairLaws
-pub mod OrderedRows
-pub mod OrderedHistory
-pub mod OrderedGuard
-pub mod OrderedFlight
-pub mod OrderedQueues
-pub mod TheOrderedDesk
 pub mod LineTable
 pub mod Fourteen
 pub mod RefusedLines
@@ -66,4 +56,3 @@ pub mod Edges
 pub mod EmptyCases
 pub mod RawCases
 pub mod OneOutcome
-pub mod OrderedCases

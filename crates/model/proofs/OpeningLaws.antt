@@ -1,12 +1,14 @@
 -- An accepted opening: its answer, what every counter, cell and slot reads as, and what it means; over any lawful layout.
+use Prim.Native.Nat.{ℕ, suc}
 use mathlib.Core.Path.{_≡_, refl, sym, ap, _∙_}
-use mathlib.Core.Bool.{true, not}
+use mathlib.Core.Bool.{Bool, true, false, not}
 use lib.Dec.{eqb}
 use borrow.Author.Tests.{not-false}
 use Rattle.moreau.specs.StateSpace.{initial}
+use Rattle.model.specs.declared.Answer.{Answer}
 use Rattle.model.specs.declared.Posted.the-variants.{Nothing}
-use Rattle.model.specs.Refusals.{_when_}
-use Rattle.model.specs.Answers.{accepted, Outcome}
+use Rattle.model.specs.Refusals.{BadShape, BadTable, _when_, _orElse_}
+use Rattle.model.specs.Answers.{accepted, refused, Outcome}
 use Rattle.model.specs.Layout.{Layout}
 use Rattle.model.specs.Calls.{openRefusal, openDesk}
 use Rattle.model.specs.Laws.{Reads, Laws}
@@ -30,6 +32,27 @@ module _ {D : Type 0} (L : Layout D) where
   pub opening-whole : (d : D) → openRefusal L d ≡ 0 → openDesk L d ≡ record { answer = accepted 0 Nothing; desk = cleared d }
   unfolding openDesk
   opening-whole d e = rw e
+
+  -- of a good shape the owners decide
+  by-owners : (d : D) (t : Bool) → shaped d ≡ true → owned d ≡ t → openRefusal L d ≡ BadTable when not t
+  unfolding openRefusal
+  by-owners d t e f = λ w. BadShape when not (e w) orElse BadTable when not (f w)
+
+  -- at each place where its code returns
+  module _ (d : D) {r : Answer} where
+    refused-as : (n : ℕ) → openRefusal L d ≡ suc n → r ≡ refused (suc n) → record { answer = r; desk = d } ≡ openDesk L d
+    unfolding openDesk
+    refused-as n e q = rw (e, q)
+
+    pub shape-refused : shaped d ≡ false → r ≡ refused 1 → record { answer = r; desk = d } ≡ openDesk L d
+    unfolding openRefusal
+    shape-refused e q = refused-as 0 (ap (λ t. BadShape when not t orElse BadTable when not (owned d)) e) q
+
+    pub owners-refused : shaped d ≡ true → owned d ≡ false → r ≡ refused 2 → record { answer = r; desk = d } ≡ openDesk L d
+    owners-refused e f q = refused-as 1 (by-owners d false e f) q
+
+    pub opened-as : shaped d ≡ true → owned d ≡ true → {left : D} → left ≡ cleared d → r ≡ accepted 0 Nothing → record { answer = r; desk = left } ≡ openDesk L d
+    opened-as e f c q = (λ w. record { answer = q w; desk = c w }) ∙ sym (opening-whole d (by-owners d true e f))
 
   -- the number of an opening is that of its tests
   pub opening-number : (d : D) → openDesk L d .answer .number ≡ 0 → openRefusal L d ≡ 0

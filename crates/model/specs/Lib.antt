@@ -12,8 +12,6 @@ pub mod Flat
 pub mod InWords
 pub mod Meaning
 pub mod Demands
-pub mod Ordered
-pub mod InOrder
 pub mod Lines
 pub mod Fields
 pub mod Places

@@ -6,3 +6,4 @@ pub mod EntryLaws
 pub mod Handed
 pub mod LineForms
 pub mod NoTwoOutcomes
+pub mod NoTwoInOrder

@@ -16,7 +16,7 @@ use Rattle.pointer_desk.specs.Boundary.{Given, given, flatAnswer, flatSh
 use Rattle.model.proofs.OneOutcome.{one-outcome, one-answer}
 
 -- of what a host is given on a desk: the answer, and the three parts that a call may write
-one-given-desk : {o o′ v : Given Desk} → o ≡ v → o′ ≡ v
+one-given-desk : {o o′ v : Given DeskAnswer Desk} → o ≡ v → o′ ≡ v
     → (o .answer ≡ o′ .answer) × (o .desk .send ≡ o′ .desk .send) × (o .desk .receive ≡ o′ .desk .receive) × (o .desk .pool ≡ o′ .desk .pool)
 one-given-desk e f =
     (one-outcome (λ o. o .answer) e f, one-outcome (λ o. o .desk .send) e f, one-outcome (λ o. o .desk .receive) e f, one-outcome (λ o. o .desk .pool) e f)
@@ -73,7 +73,7 @@ module _ (sites : ℕ) (owners send receive pool : List ℕ) where
   module _ (pointer : ℕ) (sheet : List ℕ) where
     -- what `counts::desk_sheet` promises
     abbrev pub SheetPromise : ℕ → List ℕ → Type 0
-    SheetPromise r sheet′ = record { number = r; counts = sheet′ } ≡ sheetGiven (lent sites owners send receive pool) pointer sheet
+    SheetPromise r sheet′ = record { number = r; counts = sheet′ } ≡ sheetGiven flat (lent sites owners send receive pool) pointer sheet
 
     pub no-two-sheets : {r q : ℕ} {sheet′ sheet″ : List ℕ} → SheetPromise r sheet′ → SheetPromise q sheet″ → (r ≡ q) × (sheet′ ≡ sheet″)
     no-two-sheets e f = (one-outcome (λ (o : Sheet). o .number) e f, one-outcome (λ (o : Sheet). o .counts) e f)
@@ -108,7 +108,7 @@ module _ (text : List ℕ) where
   WritePromise code a b c r text′ = record { answer = r; desk = text′ } ≡ given (lineWritten text code a b c)
 
   pub no-two-writes : (code a b c : ℕ) {r q : DeskAnswer} {text′ text″ : List ℕ} → WritePromise code a b c r text′ → WritePromise code a b c q text″ → (r ≡ q) × (text′ ≡ text″)
-  no-two-writes code a b c e f = (one-outcome (λ (o : Given (List ℕ)). o .answer) e f, one-outcome (λ (o : Given (List ℕ)). o .desk) e f)
+  no-two-writes code a b c e f = (one-outcome (λ (o : Given DeskAnswer (List ℕ)). o .answer) e f, one-outcome (λ (o : Given DeskAnswer (List ℕ)). o .desk) e f)
 
   -- what `line::desk_line_read` promises
   abbrev pub ReadPromise : ℕ → DeskLine → Type 0

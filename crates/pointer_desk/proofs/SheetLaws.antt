@@ -6,8 +6,7 @@ use native.Mathlib.Omega.{arith}
 use lib.ListN.{length, getD, take, set}
 use lib.Seq.{take-all}
 use borrow.Author.Tests.{ne-eqb}
-use Rattle.model.specs.Tables.{Desk}
-use Rattle.model.specs.Flat.{flat}
+use Rattle.model.specs.Layout.{Layout}
 use Rattle.model.specs.Survey.{sheetNumber, sheet}
 use Rattle.model.proofs.QuestionLaws.{length-up-to, up-to-at}
 use Rattle.tables.proofs.FillLaws.{Filled, filled-more}
@@ -37,11 +36,12 @@ module _ (rows : List (List ℕ)) where
   sheet-whole {later} e all = sym (take-all 192 later (omega arith)) ∙ all ∙ take-all 192 (rowByRow rows) (omega (arith, length-up-to 192 (countOf rows)))
 
 -- ---- what the call gives: another length, or 192 counts
-pub sheet-kept : (d : Desk) (p : ℕ) (counts : List ℕ) → (length counts ≡ 192 → ⊥) → record { number = 1; counts = counts } ≡ sheetGiven d p counts
-unfolding sheetGiven
-sheet-kept d p counts other = rw (ne-eqb (length counts) 192 other) refl
+module _ {D : Type 0} (L : Layout D) (d : D) (p : ℕ) (counts : List ℕ) where
+  pub sheet-kept : (length counts ≡ 192 → ⊥) → record { number = 1; counts = counts } ≡ sheetGiven L d p counts
+  unfolding sheetGiven
+  sheet-kept other = rw (ne-eqb (length counts) 192 other) refl
 
-pub sheet-written : (d : Desk) (p : ℕ) (counts : List ℕ) {number : ℕ} {rows : List (List ℕ)} {later : List ℕ} → length counts ≡ 192
-    → number ≡ sheetNumber flat d p → rows ≡ sheet flat d p → later ≡ rowByRow rows → record { number = number; counts = later } ≡ sheetGiven d p counts
-unfolding sheetGiven
-sheet-written d p counts long n r l = rw (long, n, l, r) refl
+  pub sheet-written : {number : ℕ} {rows : List (List ℕ)} {later : List ℕ} → length counts ≡ 192
+      → number ≡ sheetNumber L d p → rows ≡ sheet L d p → later ≡ rowByRow rows → record { number = number; counts = later } ≡ sheetGiven L d p counts
+  unfolding sheetGiven
+  sheet-written long n r l = rw (long, n, l, r) refl

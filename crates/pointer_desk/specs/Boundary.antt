@@ -1,4 +1,4 @@
--- Document 01, "The calls", "Share and sheet", "The address book", "Lines": answers in C's form.
+-- Document 01, "The calls", "Share and sheet", "The address book", "Lines"; document 02, Three: answers in C's form.
 use Prim.Native.Nat.{ℕ, _+_, _/_, _%_}
 use mathlib.Core.Bool.{cond}
 use mathlib.Core.List.{List, [], _∷_}
@@ -14,13 +14,13 @@ use Rattle.model.specs.Questions.{upTo}
 use Rattle.model.specs.Refusals.{BadShape}
 use Rattle.model.specs.Messages.{slotOf}
 use Rattle.model.specs.Answers.{refused, Outcome}
-use Rattle.model.specs.Tables.{Desk}
-use Rattle.model.specs.Flat.{flat}
+use Rattle.model.specs.Layout.{Layout}
 use Rattle.model.specs.Survey.{sheetNumber, sheet}
 use Rattle.model.specs.Lines.{bytesOf, readBytes, writeCall, nextAt}
 use Rattle.model.specs.Places.{movedTo}
 use Rattle.book.specs.Book.{entryAt, lengthByte, addressNumber}
 use Rattle.pointer_desk.specs.declared.answer.DeskAnswer.{DeskAnswer}
+use Rattle.pointer_desk.specs.declared.answer.DeskOrderedAnswer.{DeskOrderedAnswer}
 use Rattle.pointer_desk.specs.declared.counts.DeskShare.{DeskShare}
 use Rattle.pointer_desk.specs.declared.addresses.DeskPart.{DeskPart}
 use Rattle.pointer_desk.specs.declared.line.DeskLine.{DeskLine}
@@ -29,13 +29,23 @@ use Rattle.pointer_desk.specs.declared.line.DeskLine.{DeskLine}
 abbrev pub flatAnswer : Answer → DeskAnswer
 flatAnswer a = record { number = a .number; value = a .value; empty = a .empty; message = slotOf (a .posted) }
 
+-- the in-order desk's answer: the same fields
+abbrev pub orderedAnswer : Answer → DeskOrderedAnswer
+orderedAnswer a = record { number = a .number; value = a .value; empty = a .empty; message = slotOf (a .posted) }
+
 -- what a host is given: the answer in C's form, and the lent memory as the call leaves it
-pub record Given (D : Type 0) : Type 0 where
-  pub answer : DeskAnswer
+pub record Given (A D : Type 0) : Type 0 where
+  pub answer : A
   pub desk : D
 
-abbrev pub given : {D : Type 0} → Outcome D → Given D
-given outcome = record { answer = flatAnswer (outcome .answer); desk = outcome .desk }
+abbrev pub givenAs : {A D : Type 0} → (Answer → A) → Outcome D → Given A D
+givenAs form outcome = record { answer = form (outcome .answer); desk = outcome .desk }
+
+abbrev pub given : {D : Type 0} → Outcome D → Given DeskAnswer D
+given outcome = givenAs flatAnswer outcome
+
+abbrev pub givenInOrder : {D : Type 0} → Outcome D → Given DeskOrderedAnswer D
+givenInOrder outcome = givenAs orderedAnswer outcome
 
 abbrev pub flatShare : Share → DeskShare
 flatShare a = record { number = a .number; share = a .share }
@@ -53,10 +63,10 @@ pub record Sheet : Type 0 where
   pub counts : List ℕ
 
 -- another length than 192 gives 1, and nothing is written
-unfoldable pub sheetGiven : Desk → ℕ → List ℕ → Sheet
-sheetGiven d p counts =
+unfoldable pub sheetGiven : {D : Type 0} → Layout D → D → ℕ → List ℕ → Sheet
+sheetGiven L d p counts =
     cond (eqb (length counts) 192)
-    (record { number = sheetNumber flat d p; counts = rowByRow (sheet flat d p) })
+    (record { number = sheetNumber L d p; counts = rowByRow (sheet L d p) })
     (record { number = BadShape; counts = counts })
 
 -- the address of a pointer as a place in the lent book and a length; after a refusal both are 0

@@ -52,6 +52,16 @@ fn write_row(rows: &[[u32; 64]; 3], row: usize, sheet: &mut [u32])
     }
 }
 
+// A sheet as 192 counts, row by row.
+pub(crate) fn write_sheet(rows: &[[u32; 64]; 3], sheet: &mut [u32])
+    requires { ⌜ length (now sheet) ≡ 192 ⌝ }
+    ensures { λ _. ⌜ now (sheet .exit) ≡ rowByRow (now (rows .entry)) ⌝ }
+{
+    write_row(rows, 0, sheet);
+    write_row(rows, 1, sheet);
+    write_row(rows, 2, sheet)
+}
+
 // A sheet of 192 counts; another length gives 1, and nothing is written.
 #[no_mangle]
 pub extern "C" fn desk_sheet(
@@ -64,15 +74,13 @@ pub extern "C" fn desk_sheet(
     sheet: &mut [u32],
 ) -> u8
     ensures { λ r. ⌜ record { number = r; counts = now (sheet .exit) }
-        ≡ sheetGiven (lent sites (now (owners .entry)) (now (send .entry)) (now (receive .entry)) (now (pool .entry))) pointer (now (sheet .entry)) ⌝ }
+        ≡ sheetGiven flat (lent sites (now (owners .entry)) (now (send .entry)) (now (receive .entry)) (now (pool .entry))) pointer (now (sheet .entry)) ⌝ }
 {
     if sheet.len() != 192 {
         return 1;
     }
     let number = sheet_number(sites, owners, send, receive, pool, pointer);
     let rows = sheet_by(number, sites, owners, send, receive, pool, pointer);
-    write_row(&rows, 0, sheet);
-    write_row(&rows, 1, sheet);
-    write_row(&rows, 2, sheet);
+    write_sheet(&rows, sheet);
     number
 }

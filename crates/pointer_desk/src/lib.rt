@@ -4,4 +4,6 @@ mod answer;
 mod counts;
 mod line;
 mod machine;
+mod ordered_calls;
+mod ordered_counts;
 mod program;

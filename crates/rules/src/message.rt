@@ -1,7 +1,7 @@
 // A message: its slot bytes, its receiver and its pointer (Document 01, What the host lends).
 use model::Posted;
 ghost use mathlib.Core.Path.{_≡_};
-ghost use Rattle.model.specs.Messages.{slotOf, receiver as receiverOf, pointerOf, isIncDec};
+ghost use Rattle.model.specs.Messages.{slotOf, isNothing, sender as senderOf, receiver as receiverOf, pointerOf, isIncDec};
 
 // A message as slot bytes: kind, from, to, third, pointer.
 pub fn slot_bytes(m: Posted) -> [u8; 5]
@@ -17,6 +17,30 @@ pub fn slot_bytes(m: Posted) -> [u8; 5]
             pointer,
         } => [3, from, to, third, pointer],
         Posted::Nothing => [0, 0, 0, 0, 0],
+    }
+}
+
+// Whether there is none.
+pub fn is_nothing(m: Posted) -> bool
+    ensures { λ r. ⌜ r ≡ isNothing m ⌝ }
+{
+    match m {
+        Posted::Copy { .. } => false,
+        Posted::Dec { .. } => false,
+        Posted::IncDec { .. } => false,
+        Posted::Nothing => true,
+    }
+}
+
+// The site that it came from.
+pub fn sender(m: Posted) -> u8
+    ensures { λ r. ⌜ r ≡ senderOf m ⌝ }
+{
+    match m {
+        Posted::Copy { from, .. } => from,
+        Posted::Dec { from, .. } => from,
+        Posted::IncDec { from, .. } => from,
+        Posted::Nothing => 0,
     }
 }
 

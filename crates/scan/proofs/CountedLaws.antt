@@ -54,7 +54,7 @@ word-counted word n x {count} {one} eo ex e =
     (ap₂ (λ (o : List ℕ) (y : ℕ). getD o (y % 4) 0) eo ex ∙ one-by-kind (word n % 4))
 
 -- ---- where all slots are good, those so counted are the empty ones
-same-count : (n : ℕ) (P Q : ℕ → Bool) → ((i : ℕ) → i < n → P i ≡ Q i) → howMany n P ≡ howMany n Q
+pub same-count : (n : ℕ) (P Q : ℕ → Bool) → ((i : ℕ) → i < n → P i ≡ Q i) → howMany n P ≡ howMany n Q
 unfolding howMany
 same-count zero P Q h = refl
 same-count (suc n) P Q h = ap₂ (λ (k : ℕ) (b : Bool). k + cond b 1 0) (same-count n P Q (λ i l. h i (omega arith))) (h n (omega arith))

@@ -99,7 +99,7 @@ four-ands true false true d = refl
 four-ands true false false d = refl
 four-ands false b c d = refl
 
-both : (P Q : ℕ → Bool) (n : ℕ) → every n (λ k. P k && Q k) ≡ (every n P && every n Q)
+pub both : (P Q : ℕ → Bool) (n : ℕ) → every n (λ k. P k && Q k) ≡ (every n P && every n Q)
 unfolding every
 both P Q zero = refl
 both P Q (suc n) = ap (λ (b : Bool). b && (P n && Q n)) (both P Q n) ∙ four-ands (every n P) (every n Q) (P n) (Q n)

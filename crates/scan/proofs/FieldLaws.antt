@@ -70,12 +70,12 @@ module _ (a b c kind from to third p : ℕ) where
 pub masked-block : (x m r s : ℕ) {x′ r′ : ℕ} → r < 256 → s < 256 → bitAnd x m ≡ x′ → bitAnd r s ≡ r′ → bitAnd (x * 256 + r) (m * 256 + s) ≡ x′ * 256 + r′
 masked-block x m r s lr ls ex er = and-block 8 x m r s lr ls ∙ ap₂ (λ (a b : ℕ). a * 256 + b) ex er
 
-no-field : (p third to from kind : ℕ) → (((p * 256 * 256 + third * 128) * 256 + to * 128) * 256 + from * 128) * 256 + kind * 4 ≡ 0
+pub no-field : (p third to from kind : ℕ) → (((p * 256 * 256 + third * 128) * 256 + to * 128) * 256 + from * 128) * 256 + kind * 4 ≡ 0
     → (p ≡ 0) × (third ≡ 0) × (to ≡ 0) × (from ≡ 0) × (kind ≡ 0)
 no-field p third to from kind e = (omega arith, omega arith, omega arith, omega arith, omega arith)
 
 module _ (kind from to third p : ℕ) (k : kind < 256) (f : from < 256) (t : to < 256) (h : third < 256) where
-  masked : bitAnd (packed kind from to third p) slotMask
+  pub masked : bitAnd (packed kind from to third p) slotMask
       ≡ (((p / 256 % 2 * 256 * 256 + third / 128 % 2 * 128) * 256 + to / 128 % 2 * 128) * 256 + from / 128 % 2 * 128) * 256 + kind / 4 % 64 * 4
   masked =
       let e : packed kind from to third p ≡ (((p * 256 + third) * 256 + to) * 256 + from) * 256 + kind = omega arith in

@@ -53,7 +53,7 @@ module _ (s g from to third p : ℕ) (f : from < 256) (t : to < 256) (h : third 
       let l = tested-below a b c kind from to third p tests in
       rw (below-clear kind from to third p (omega arith)) (below-clear kind from′ to′ third′ p′ (omega arith))))
 
-  word-good : (kind : ℕ) → kind < 256 → s ≤ 64 → g ≤ 256 → wordGood (rooms s g) (word kind) ≡ slotGood s g kind from to third p
+  pub word-good : (kind : ℕ) → kind < 256 → s ≤ 64 → g ≤ 256 → wordGood (rooms s g) (word kind) ≡ slotGood s g kind from to third p
   word-good zero k ls lg =
       let e : word 0 % 4 ≡ 0 = omega arith in
       ap (tested 0) e ∙ within-room 0 1 1 1 k (omega arith) (omega arith) (omega arith)

@@ -29,7 +29,7 @@ fn word_of(kind: u8, from: u8, to: u8, third: u8, pointer: u8) -> u64
 }
 
 // Eight fields as one number. Its last step is an `|`, so that the compiler reads eight bytes at once.
-fn pack_eight(a: u64, b: u64, c: u64, d: u64, e: u64, f: u64, g: u64, h: u64) -> u64
+pub fn pack_eight(a: u64, b: u64, c: u64, d: u64, e: u64, f: u64, g: u64, h: u64) -> u64
     requires { ⌜ (a < 256) × (b < 256) × (c < 256) × (d < 256) × (e < 256) × (f < 256) × (g < 256) × (h < 256) ⌝ }
     ensures { λ r. ⌜ r ≡ eight a b c d e f g h ⌝ }
 {
@@ -45,7 +45,7 @@ fn wide(x: u8) -> u64
 }
 
 // The eight bytes from a place on as one number.
-pub(crate) fn eight_at(bytes: &[u8], at: usize) -> u64
+pub fn eight_at(bytes: &[u8], at: usize) -> u64
     requires { ⌜ at + 8 ≤ length (now bytes) ⌝ }
     ensures { λ r. ⌜ r ≡ eightAt (now (bytes .entry)) at ⌝ }
 {
@@ -85,7 +85,7 @@ fn word_at(pool: &[u8], slot: usize) -> u64
 }
 
 // By kind, what may be added to each field of a good slot before it reaches the field's top bit.
-pub(crate) fn rooms_of(s: u8, g: usize) -> [u64; 4]
+pub fn rooms_of(s: u8, g: usize) -> [u64; 4]
     requires { ⌜ (s ≤ 64) × (g ≤ 256) ⌝ }
     ensures { λ r. ⌜ r ≡ rooms s g ⌝ }
 {
@@ -117,9 +117,9 @@ fn shown_at(room: &[u64; 4], pool: &[u8], slot: usize) -> u64
 }
 
 // What the slots so far show: their numbers, and their numbers with the room of their kinds, kept apart, which takes fewer steps.
-pub(crate) struct Seen {
-    pub(crate) numbers: u64,
-    pub(crate) sums: u64,
+pub struct Seen {
+    pub numbers: u64,
+    pub sums: u64,
 }
 
 // What is seen with one slot more, where three bytes follow it.

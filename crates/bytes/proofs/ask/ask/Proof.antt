@@ -1,15 +1,21 @@
 -- Ask meets its promise: 1, 2, 3, then 13; the owner's counter alone decides.
-use Prim.Native.Nat.{_<_}
-use mathlib.Core.Path.{_≡_, refl, sym, _∙_}
+use Prim.Native.Nat.{ℕ, _<_}
+use mathlib.Core.Path.{_≡_, refl, sym, ap, _∙_}
 use native.Mathlib.Omega.{arith}
+use lib.Dec.{eqb}
 use lib.ListN.{length, getD}
 use borrow.Author.Needs.{needs}
 use borrow.Author.Tests.{ltb-true, eq-eqb, ne-eqb, eqb-false}
+use Rattle.model.specs.declared.Posted.the-variants.{Nothing}
+use Rattle.model.specs.Answers.{accepted}
 use Rattle.model.specs.Calls.{askNumber, ask}
 use Rattle.model.specs.Tables.{Desk, lent, place}
+use Rattle.model.specs.Flat.{heldSlots}
+use Rattle.model.proofs.FlatLaws.{held-slots}
 use Rattle.model.proofs.TestLaws.{refused-by-front, refused-by-own, accepted-by-both}
-use Rattle.bytes.proofs.FrontLaws.{Ready, ready-names}
-use Rattle.bytes.proofs.EffectLaws.{asked-as}
+use Rattle.model.proofs.ReadyLaws.{Ready, ready-names}
+use Rattle.model.proofs.EffectLaws.{asked-as}
+use Rattle.tables.proofs.RowLaws.{test-as-byte}
 use Rattle.bytes.proofs.ask.ask.Statement.{statement}
 use Rattle.bytes.proofs.ask.ask.Tie as tie
 
@@ -29,8 +35,8 @@ returns : tie.Need-returns
 unfolding ask askNumber
 returns c = refused-by-front (desk (start (c .before .before))) _ _ _ _ (c .before .if1 .taken) (c .before .before .front .ensures) (c .refused .ensures)
 
-known : (c : tie.Else1) → let a = start (c .before) .args in Ready (desk (start (c .before))) (a .site) (a .pointer)
-known c = ready-names (desk (start (c .before))) _ _ _ (ltb-true _ _) (c .before .front .ensures) (c .if1 .left)
+known : (c : tie.Else1) → let a = start (c .before) .args in Ready heldSlots (desk (start (c .before))) (a .site) (a .pointer)
+known c = ready-names heldSlots held-slots (desk (start (c .before))) _ _ _ (ltb-true _ _) (c .before .front .ensures) (c .if1 .left)
 
 -- the place that is read is the owner's
 at-owner : (c : tie.After-place-of) → let a = start (c .before .before .before .before) .args in
@@ -72,7 +78,7 @@ unfolding ask askNumber
 returns-3 c =
     let o = c .before .before .before in
     let e = o .before .before in
-    asked-as (desk (start (e .before))) _ (at-owner (c .before .before)) (c .accepted .ensures)
+    asked-as heldSlots (desk (start (e .before))) _ (at-owner (c .before .before)) (c .accepted .ensures ∙ ap (λ (v : ℕ). accepted v Nothing) (test-as-byte (eqb (getD (start (e .before) .args .send .now) (c .before .before .place-of .result) 0) 0)))
     ∙ accepted-by-both (desk (start (e .before))) _ _ _ (sym (e .before .front .ensures) ∙ e .if1 .left) (rw (eq-eqb _ _ (o .if2 .left)))
 
 pub ask-spec : {M : Type 1} → statement M

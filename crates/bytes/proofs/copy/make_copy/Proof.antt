@@ -10,11 +10,12 @@ use borrow.Author.Tests.{ltb-true}
 use Rattle.model.specs.declared.Empties.{Empties}
 use Rattle.model.specs.Calls.{copyRefusal, lowestEmpty, copyNumber, makeCopy}
 use Rattle.model.specs.Tables.{Desk, lent, slotsOf, emptyAt}
-use Rattle.model.specs.Flat.{flat}
+use Rattle.model.specs.Flat.{heldSlots, flat}
+use Rattle.model.proofs.FlatLaws.{held-slots}
 use Rattle.model.proofs.EmptySlots.{at-most-all}
 use Rattle.model.proofs.TestLaws.{and-both, refused-by-front, refused-by-own, accepted-by-both}
-use Rattle.bytes.proofs.FrontLaws.{counted-when-passed, Ready, ready-names}
-use Rattle.bytes.proofs.EffectLaws.{copy-clear, read-as, copied-as}
+use Rattle.model.proofs.ReadyLaws.{counted-when-passed, Ready, ready-names}
+use Rattle.model.proofs.EffectLaws.{copy-clear, read-as, copied-as}
 use Rattle.bytes.proofs.copy.make_copy.Statement.{statement}
 use Rattle.bytes.proofs.copy.make_copy.Tie as tie
 
@@ -40,10 +41,10 @@ returns : tie.Need-returns
 unfolding makeCopy copyNumber
 returns c = refused-by-front (desk (start (c .before .before))) _ _ _ _ (c .before .if1 .taken) (c .before .before .counted-front .ensures .0) (c .refused .ensures)
 
-known : (c : tie.Else1) → let a = start (c .before) .args in Ready (desk (start (c .before))) (a .from) (a .pointer)
+known : (c : tie.Else1) → let a = start (c .before) .args in Ready heldSlots (desk (start (c .before))) (a .from) (a .pointer)
 known c =
     let a = start (c .before) .args in
-    ready-names (desk (start (c .before))) _ _ (ltb (a .from) (a .s) && ltb (a .to) (a .s)) (λ e. ltb-true _ _ (and-both _ _ e .0)) (c .before .counted-front .ensures .0) (c .if1 .left)
+    ready-names heldSlots held-slots (desk (start (c .before))) _ _ (ltb (a .from) (a .s) && ltb (a .to) (a .s)) (λ e. ltb-true _ _ (and-both _ _ e .0)) (c .before .counted-front .ensures .0) (c .if1 .left)
 
 -- the sender's place
 in-send : (c : tie.After-place-of) → c .place-of .result < length (start (c .before .before) .args .send .now)
@@ -59,9 +60,9 @@ own : (c : tie.After-copy-refusal) → let b = start (place-of c .before .before
 own c =
     let b = start (place-of c .before .before) in
     let a = b .args in
-    c .copy-refusal .ensures
-    ∙ read-as (desk b) (a .from) (a .pointer) (place-of c .place-of .ensures) (c .before .before .before .search .ensures)
+    read-as heldSlots (desk b) (a .from) (a .pointer) (place-of c .place-of .ensures) (c .before .before .before .search .ensures)
     (λ cell counter slot. copyRefusal (a .from) (a .to) (flat .owner (desk b) (a .pointer)) cell counter slot (slotsOf 5 (a .pool .now)))
+    (c .copy-refusal .ensures)
 
 place-of-requires : tie.Need-place-of-requires
 place-of-requires c κs = known c .few-pointers
@@ -147,7 +148,7 @@ returns-3 c =
     let k = o .before in
     let e = place-of k .before in
     let d = desk (start (e .before)) in
-    copied-as d _ _ (place-of k .place-of .ensures) (k .before .before .before .search .ensures) _ (c .accepted-telling .ensures) (w .write-slot .ensures)
+    copied-as heldSlots d _ _ (place-of k .place-of .ensures) (k .before .before .before .search .ensures) _ (c .accepted-telling .ensures) (w .write-slot .ensures)
     ∙ accepted-by-both d _ _ _ (sym (e .before .counted-front .ensures .0) ∙ e .if1 .left) (sym (own k) ∙ o .if2 .left)
 
 pub make-copy-spec : {M : Type 1} → statement M

@@ -8,11 +8,12 @@ use borrow.Author.Tests.{ltb-true}
 use Rattle.model.specs.declared.Empties.{Empties}
 use Rattle.model.specs.Calls.{deleteRefusal, lowestEmpty, deleteNumber, delete}
 use Rattle.model.specs.Tables.{Desk, lent, slotsOf, emptyAt}
-use Rattle.model.specs.Flat.{flat}
+use Rattle.model.specs.Flat.{heldSlots, flat}
+use Rattle.model.proofs.FlatLaws.{held-slots}
 use Rattle.model.proofs.EmptySlots.{at-most-all}
 use Rattle.model.proofs.TestLaws.{refused-by-front, refused-by-own, accepted-by-both}
-use Rattle.bytes.proofs.FrontLaws.{counted-when-passed, Ready, ready-names}
-use Rattle.bytes.proofs.EffectLaws.{delete-clear, read-as, deleted-as}
+use Rattle.model.proofs.ReadyLaws.{counted-when-passed, Ready, ready-names}
+use Rattle.model.proofs.EffectLaws.{delete-clear, read-as, deleted-as}
 use Rattle.bytes.proofs.delete.delete.Statement.{statement}
 use Rattle.bytes.proofs.delete.delete.Tie as tie
 
@@ -38,8 +39,8 @@ returns : tie.Need-returns
 unfolding delete deleteNumber
 returns c = refused-by-front (desk (start (c .before .before))) _ _ _ _ (c .before .if1 .taken) (c .before .before .counted-front .ensures .0) (c .refused .ensures)
 
-known : (c : tie.Else1) → let a = start (c .before) .args in Ready (desk (start (c .before))) (a .site) (a .pointer)
-known c = ready-names (desk (start (c .before))) _ _ _ (ltb-true _ _) (c .before .counted-front .ensures .0) (c .if1 .left)
+known : (c : tie.Else1) → let a = start (c .before) .args in Ready heldSlots (desk (start (c .before))) (a .site) (a .pointer)
+known c = ready-names heldSlots held-slots (desk (start (c .before))) _ _ _ (ltb-true _ _) (c .before .counted-front .ensures .0) (c .if1 .left)
 
 -- the site's place
 in-send : (c : tie.After-place-of) → c .place-of .result < length (start (c .before .before) .args .send .now)
@@ -58,9 +59,9 @@ own : (c : tie.After-delete-refusal) → let b = start (place-of c .before .befo
 own c =
     let b = start (place-of c .before .before) in
     let a = b .args in
-    c .delete-refusal .ensures
-    ∙ read-as (desk b) (a .site) (a .pointer) (place-of c .place-of .ensures) (c .before .before .before .search .ensures)
+    read-as heldSlots (desk b) (a .site) (a .pointer) (place-of c .place-of .ensures) (c .before .before .before .search .ensures)
     (λ cell counter slot. deleteRefusal (a .site) (flat .owner (desk b) (a .pointer)) cell counter slot (slotsOf 5 (a .pool .now)))
+    (c .delete-refusal .ensures)
 
 place-of-requires : tie.Need-place-of-requires
 place-of-requires c κs = known c .few-pointers
@@ -137,7 +138,7 @@ returns-3 c =
     let k = o .before in
     let e = place-of k .before in
     let d = desk (start (e .before)) in
-    deleted-as d _ _ (place-of k .place-of .ensures) (k .before .before .before .search .ensures) (c .accepted-telling .ensures) (w .write-slot .ensures)
+    deleted-as heldSlots d _ _ (place-of k .place-of .ensures) (k .before .before .before .search .ensures) (c .accepted-telling .ensures) (w .write-slot .ensures)
     ∙ accepted-by-both d _ _ _ (sym (e .before .counted-front .ensures .0) ∙ e .if1 .left) (sym (own k) ∙ o .if2 .left)
 
 pub delete-spec : {M : Type 1} → statement M

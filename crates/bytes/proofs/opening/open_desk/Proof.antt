@@ -6,7 +6,7 @@ use borrow.Author.Tests.{not-true, not-false}
 use Rattle.model.specs.Tables.{Desk, lent}
 use Rattle.model.specs.Flat.{flat}
 use Rattle.model.proofs.InWords.{shape-in-words}
-use Rattle.bytes.proofs.OpeningLaws.{shape-refused, owners-refused, opened}
+use Rattle.model.proofs.OpeningLaws.{shape-refused, owners-refused, opened-as}
 use Rattle.bytes.proofs.opening.open_desk.Statement.{statement}
 use Rattle.bytes.proofs.opening.open_desk.Tie as tie
 
@@ -27,7 +27,7 @@ refused-requires : tie.Need-refused-requires
 refused-requires c κs = search needs
 
 returns : tie.Need-returns
-returns c = shape-refused (given (c .before .before)) (sym (c .before .before .shape-good .ensures) ∙ not-true _ (c .before .if1 .taken)) (c .refused .ensures)
+returns c = shape-refused flat (given (c .before .before)) (sym (c .before .before .shape-good .ensures) ∙ not-true _ (c .before .if1 .taken)) (c .refused .ensures)
 
 all-below-requires : tie.Need-all-below-requires
 all-below-requires c κs = shape-in-words (given (c .before)) .0 (shape-holds c) .sizes .some-site
@@ -38,7 +38,7 @@ refused-requires-2 c κs = search needs
 returns-2 : tie.Need-returns-2
 returns-2 c =
     let e = c .before .before .before in
-    owners-refused (given (e .before)) (shape-holds e)
+    owners-refused flat (given (e .before)) (shape-holds e)
     (sym (c .before .before .all-below .ensures) ∙ not-true _ (c .before .if2 .taken)) (c .refused2 .ensures)
 
 clear-counters-requires : tie.Need-clear-counters-requires
@@ -72,8 +72,9 @@ returns-3 c =
     let counters = cells .before .before .before .before in
     let owners = counters .before .before in
     let shape = owners .before .before in
-    opened (given (shape .before)) (shape-holds shape) (owners-hold owners)
-    (counters .clear-counters .ensures) (cells .write-rows .ensures) (slots .clear-slots .ensures) (c .accepted .ensures)
+    let d = given (shape .before) in
+    opened-as flat d (shape-holds shape) (owners-hold owners)
+    (λ w. lent (d .S) (d .owners) (counters .clear-counters .ensures w) (cells .write-rows .ensures w) (slots .clear-slots .ensures w)) (c .accepted .ensures)
 
 pub open-desk-spec : {M : Type 1} → statement M
 open-desk-spec =

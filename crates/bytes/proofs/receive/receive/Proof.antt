@@ -1,13 +1,16 @@
 -- Receive meets its promise: 1, 2, 3, 8, then what the message decides, then the counter, the cell and the slot.
 use Prim.Native.Nat.{_<_}
-use mathlib.Core.Path.{_≡_, sym, _∙_}
+use mathlib.Core.Path.{_≡_, sym, ap, _∙_}
 use native.Mathlib.Omega.{arith}
 use lib.ListN.{length}
 use borrow.Author.Needs.{needs}
-use Rattle.model.specs.Tables.{Desk, lent, slotsOf}
+use Rattle.model.specs.Calls.{heldRefusal}
+use Rattle.model.specs.Tables.{Desk, lent, slotsOf, messageAt}
+use Rattle.model.specs.Flat.{heldSlots, flat}
+use Rattle.model.proofs.FlatLaws.{held-slots, flat-laws}
 use Rattle.model.proofs.TestLaws.{refused-by-front, refused-by-own, accepted-by-both}
-use Rattle.bytes.proofs.FrontLaws.{Ready}
-use Rattle.bytes.proofs.ReceiveLaws.{slotNumber, ownNumber, receive-as, slot-inside, ready-message, own-as, received-as}
+use Rattle.model.proofs.ReadyLaws.{Ready}
+use Rattle.model.proofs.ReceiveLaws.{slotNumber, ownNumber, receive-as, Full, slot-full, ready-message, own-as, received-as}
 use Rattle.bytes.proofs.receive.receive.Statement.{statement}
 use Rattle.bytes.proofs.receive.receive.Tie as tie
 
@@ -36,23 +39,27 @@ returns : tie.Need-returns
 returns c =
     let f = c .before .before in
     let b = start f in
-    refused-by-front (desk b) _ (f .slot-refusal .result) _ _ (c .before .if1 .taken) (f .slot-refusal .ensures) (c .refused .ensures) ∙ receive-as (desk b) (b .args .slot)
+    refused-by-front (desk b) _ (f .slot-refusal .result) _ _ (c .before .if1 .taken) (f .slot-refusal .ensures) (c .refused .ensures) ∙ receive-as flat (desk b) (b .args .slot)
 
 -- 1, 2, 3, 8 are not given
-passed : (c : tie.Else1) → let b = start (c .before) in slotNumber (desk b) (b .args .slot) ≡ 0
+passed : (c : tie.Else1) → let b = start (c .before) in slotNumber flat (desk b) (b .args .slot) ≡ 0
 passed c = sym (c .before .slot-refusal .ensures) ∙ c .if1 .left
 
+-- the slot holds a message
+full : (c : tie.Else1) → let b = start (c .before) in Full flat (desk b) (b .args .slot)
+full c = let b = start (c .before) in slot-full flat (desk b) (b .args .slot) flat-laws (passed c)
+
 in-pool : (c : tie.Else1) → let a = start (c .before) .args in a .slot < slotsOf 5 (a .pool .now)
-in-pool c = let b = start (c .before) in slot-inside (desk b) (b .args .slot) (passed c)
+in-pool c = full c .in-pool
 
 -- from the receiver back to the first tests
 abbrev tested : tie.After-receiver → tie.Else1
 tested c = c .before .before .before .before
 
-known : (c : tie.After-receiver) → Ready (desk (start (tested c .before))) (c .receiver .result) (c .before .pointer-of .result)
+known : (c : tie.After-receiver) → Ready heldSlots (desk (start (tested c .before))) (c .receiver .result) (c .before .pointer-of .result)
 known c =
     let b = start (tested c .before) in
-    ready-message (desk b) (b .args .slot) (passed (tested c)) (c .before .before .read-slot .ensures) (c .receiver .ensures) (c .before .pointer-of .ensures)
+    ready-message heldSlots (desk b) (b .args .slot) held-slots (full (tested c)) (c .before .before .read-slot .ensures) (c .receiver .ensures) (c .before .pointer-of .ensures)
 
 -- the receiver's place
 in-send : (c : tie.After-place-of) → c .place-of .result < length (start (tested (c .before) .before) .args .send .now)
@@ -66,13 +73,13 @@ abbrev place-of : tie.After-decide → tie.After-place-of
 place-of c = c .before .before .before .before .before .before
 
 -- 9 and the message's own, of the desk
-own : (c : tie.After-decide) → let b = start (tested (place-of c .before) .before) in c .decide .result .number ≡ ownNumber (desk b) (b .args .slot)
+own : (c : tie.After-decide) → let b = start (tested (place-of c .before) .before) in c .decide .result .number ≡ ownNumber flat (desk b) (b .args .slot)
 own c =
     let o = place-of c in
     let r = o .before in
     let b = start (tested r .before) in
-    own-as (desk b) (b .args .slot) (r .before .before .read-slot .ensures) (r .receiver .ensures) (r .before .pointer-of .ensures) (o .place-of .ensures)
-    (c .before .before .before .before .held-refusal .ensures) (c .decide .ensures)
+    own-as heldSlots (desk b) (b .args .slot) (r .before .before .read-slot .ensures) (r .receiver .ensures) (r .before .pointer-of .ensures) (o .place-of .ensures)
+    (c .before .before .before .before .held-refusal .ensures ∙ ap (heldRefusal (slotsOf 5 (b .args .pool .now)) (messageAt 5 (b .args .pool .now))) (r .before .before .read-slot .ensures)) (c .decide .ensures)
 
 read-slot-requires : tie.Need-read-slot-requires
 read-slot-requires c κs = omega (arith, in-pool (c .before))
@@ -124,7 +131,7 @@ returns-2 c =
     let k = c .before .before .before in
     let t = tested (place-of k .before) in
     let b = start (t .before) in
-    refused-by-own (desk b) _ (k .decide .result .number) _ _ (passed t) (c .before .if2 .taken) (own k) (c .refused2 .ensures) ∙ receive-as (desk b) (b .args .slot)
+    refused-by-own (desk b) _ (k .decide .result .number) _ _ (passed t) (c .before .if2 .taken) (own k) (c .refused2 .ensures) ∙ receive-as flat (desk b) (b .args .slot)
 
 mul-send : tie.Need-mul-send
 mul-send c = let o = place-of (c .before .before) in omega (arith, in-send o, start (tested (o .before) .before) .good)
@@ -159,10 +166,10 @@ returns-3 c =
     let r = o .before in
     let t = tested r in
     let b = start (t .before) in
-    received-as (desk b) (b .args .slot) (r .before .before .read-slot .ensures) (r .receiver .ensures) (r .before .pointer-of .ensures) (o .place-of .ensures)
+    received-as heldSlots (desk b) (b .args .slot) (r .before .before .read-slot .ensures) (r .receiver .ensures) (r .before .pointer-of .ensures) (o .place-of .ensures)
     (k .before .before .before .before .held-refusal .result) (k .decide .ensures) (e .if2 .left) (c .accepted .ensures) (w .write-slot .ensures)
     ∙ accepted-by-both (desk b) _ _ _ (passed t) (sym (own k) ∙ e .if2 .left)
-    ∙ receive-as (desk b) (b .args .slot)
+    ∙ receive-as flat (desk b) (b .args .slot)
 
 pub receive-spec : {M : Type 1} → statement M
 receive-spec =

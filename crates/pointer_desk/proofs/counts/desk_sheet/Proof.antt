@@ -1,7 +1,8 @@
 -- Another length leaves the counts; otherwise the sheet is written, row by row.
 use borrow.Author.Needs.{needs}
 use Rattle.model.specs.Tables.{Desk, lent}
-use Rattle.pointer_desk.proofs.SheetLaws.{sheet-whole, sheet-kept, sheet-written}
+use Rattle.model.specs.Flat.{flat}
+use Rattle.pointer_desk.proofs.SheetLaws.{sheet-kept, sheet-written}
 use Rattle.pointer_desk.proofs.counts.desk_sheet.Statement.{statement}
 use Rattle.pointer_desk.proofs.counts.desk_sheet.Tie as tie
 
@@ -12,7 +13,7 @@ desk c = lent (c .args .sites) (c .args .owners .now) (c .args .send .now) (c .a
 returns : tie.Need-returns
 returns c =
     let s = c .before .before .before .before .before .before in
-    sheet-kept (desk s) (s .args .pointer) (s .args .sheet .now) (c .if1 .taken)
+    sheet-kept flat (desk s) (s .args .pointer) (s .args .sheet .now) (c .if1 .taken)
 
 sheet-number-requires : tie.Need-sheet-number-requires
 sheet-number-requires c κs = search needs
@@ -20,25 +21,19 @@ sheet-number-requires c κs = search needs
 sheet-by-requires : tie.Need-sheet-by-requires
 sheet-by-requires c κs = c .sheet-number .ensures
 
-write-row-requires : tie.Need-write-row-requires
-write-row-requires c κs = search needs
-
-write-row-requires-2 : tie.Need-write-row-requires-2
-write-row-requires-2 c κs = search needs
-
-write-row-requires-3 : tie.Need-write-row-requires-3
-write-row-requires-3 c κs = search needs
+write-sheet-requires : tie.Need-write-sheet-requires
+write-sheet-requires c κs = search needs
 
 same-length : tie.Need-same-length
 same-length c = search needs
 
 returns-2 : tie.Need-returns-2
 returns-2 c =
-    let written = c .before .before .write-row3 in
-    let given = c .before .before .before .before .before .before .before .before .before .before .before .before .before .before .before in
+    let written = c .before .before .write-sheet in
+    let given = c .before .before .before .before .before in
     let asked = given .before in
     let s = asked .before .before .before .before .before .before .before in
-    sheet-written (desk s) (s .args .pointer) (s .args .sheet .now) (asked .before .if1 .left) (asked .sheet-number .ensures) (given .sheet-by .ensures) (sheet-whole (given .sheet-by .result) (written .ensures .0) (written .ensures .1))
+    sheet-written flat (desk s) (s .args .pointer) (s .args .sheet .now) (asked .before .if1 .left) (asked .sheet-number .ensures) (given .sheet-by .ensures) (written .ensures)
 
 pub desk-sheet-spec : {M : Type 1} → statement M
 desk-sheet-spec =
@@ -47,8 +42,6 @@ desk-sheet-spec =
     returns
     sheet-number-requires
     sheet-by-requires
-    write-row-requires
-    write-row-requires-2
-    write-row-requires-3
+    write-sheet-requires
     same-length
     returns-2)

@@ -2,7 +2,7 @@
 use mathlib.Core.Path.{sym, ap, _∙_}
 use borrow.Author.Needs.{needs}
 use Rattle.model.specs.declared.Answer.{Answer}
-use Rattle.pointer_desk.specs.Boundary.{readWritten}
+use Rattle.pointer_desk.specs.Boundary.{flatAnswer, readWritten}
 use Rattle.pointer_desk.proofs.BoundaryLaws.{in-c}
 use Rattle.pointer_desk.proofs.line.desk_line_write.Statement.{statement}
 use Rattle.pointer_desk.proofs.line.desk_line_write.Tie as tie
@@ -35,13 +35,13 @@ returns : tie.Need-returns
 returns c =
     let call = c .before .before .before .before .before .before in
     let text = call .before .before .before .before .args .text .now in
-    in-c (c .flat-answer .ensures) (c .before .before .before .write-call .ensures ∙ ap (readWritten text) (sym (call .call .given .1) ∙ call .before .before .read-bytes .ensures))
+    in-c flatAnswer (c .flat-answer .ensures) (c .before .before .before .write-call .ensures ∙ ap (readWritten text) (sym (call .call .given .1) ∙ call .before .before .read-bytes .ensures))
 
 returns-2 : tie.Need-returns-2
 returns-2 c =
     let n = c .before .before .before in
     let text = n .before .before .before .before .args .text .now in
-    in-c (c .flat-answer2 .ensures)
+    in-c flatAnswer (c .flat-answer2 .ensures)
     (ap (λ (a : Answer). record { answer = a; desk = text }) (c .before .refused .ensures) ∙ ap (readWritten text) (sym (n .n .given .1) ∙ n .before .before .read-bytes .ensures))
 
 pub desk-line-write-spec : {M : Type 1} → statement M

@@ -1,5 +1,6 @@
 -- The call's equation, in C's form.
 use Rattle.pointer_desk.proofs.BoundaryLaws.{in-c}
+use Rattle.pointer_desk.specs.Boundary.{flatAnswer}
 use borrow.Author.Needs.{needs}
 use Rattle.pointer_desk.proofs.machine.desk_ask.Statement.{statement}
 use Rattle.pointer_desk.proofs.machine.desk_ask.Tie as tie
@@ -11,7 +12,7 @@ flat-answer-requires : tie.Need-flat-answer-requires
 flat-answer-requires c κs = search needs
 
 returns : tie.Need-returns
-returns c = in-c (c .flat-answer .ensures) (c .before .ask .ensures)
+returns c = in-c flatAnswer (c .flat-answer .ensures) (c .before .ask .ensures)
 
 pub desk-ask-spec : {M : Type 1} → statement M
 desk-ask-spec = tie.close (tie.spec ask-requires flat-answer-requires returns)

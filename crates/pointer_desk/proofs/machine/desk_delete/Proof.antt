@@ -1,5 +1,6 @@
 -- The call's equation, in C's form.
 use Rattle.pointer_desk.proofs.BoundaryLaws.{in-c}
+use Rattle.pointer_desk.specs.Boundary.{flatAnswer}
 use borrow.Author.Needs.{needs}
 use Rattle.pointer_desk.proofs.machine.desk_delete.Statement.{statement}
 use Rattle.pointer_desk.proofs.machine.desk_delete.Tie as tie
@@ -17,7 +18,7 @@ same-length-2 : tie.Need-same-length-2
 same-length-2 c = search needs
 
 returns : tie.Need-returns
-returns c = in-c (c .flat-answer .ensures) (c .before .before .before .before .before .delete .ensures)
+returns c = in-c flatAnswer (c .flat-answer .ensures) (c .before .before .before .before .before .delete .ensures)
 
 pub desk-delete-spec : {M : Type 1} → statement M
 desk-delete-spec =

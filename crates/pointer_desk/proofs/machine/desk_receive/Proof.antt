@@ -1,5 +1,6 @@
 -- The call's equation, in C's form.
 use Rattle.pointer_desk.proofs.BoundaryLaws.{in-c}
+use Rattle.pointer_desk.specs.Boundary.{flatAnswer}
 use borrow.Author.Needs.{needs}
 use Rattle.pointer_desk.proofs.machine.desk_receive.Statement.{statement}
 use Rattle.pointer_desk.proofs.machine.desk_receive.Tie as tie
@@ -20,7 +21,7 @@ same-length-3 : tie.Need-same-length-3
 same-length-3 c = search needs
 
 returns : tie.Need-returns
-returns c = in-c (c .flat-answer .ensures) (c .before .before .before .before .before .before .before .receive .ensures)
+returns c = in-c flatAnswer (c .flat-answer .ensures) (c .before .before .before .before .before .before .before .receive .ensures)
 
 pub desk-receive-spec : {M : Type 1} → statement M
 desk-receive-spec =
