@@ -4,12 +4,32 @@ ghost use Prim.Native.Nat.{_+_, _*_, _≤_, _<_};
 ghost use lib.ListN.{length};
 ghost use Rattle.model.specs.Lines.{digitOf, numberOf, byteOf, byteAt};
 
+// The sixteen digits, in order (Document 02, Four).
+const DIGITS: [u8; 16] = [
+    b'0',
+    b'1',
+    b'2',
+    b'3',
+    b'4',
+    b'5',
+    b'6',
+    b'7',
+    b'8',
+    b'9',
+    b'A',
+    b'B',
+    b'C',
+    b'D',
+    b'E',
+    b'F',
+];
+
 // The digit of a number below 16.
 pub(crate) fn digit_of(n: u8) -> u8
     requires { ⌜ n < 16 ⌝ }
     ensures { λ r. ⌜ r ≡ digitOf n ⌝ }
 {
-    if n < 10 { b'0' + n } else { b'A' + (n - 10) }
+    DIGITS[n as usize]
 }
 
 // The number of a digit; 16 for any other character.

@@ -1,21 +1,15 @@
--- `digit_of` meets its promise: below 10, and not.
+-- `digit_of` meets its promise: the table's entry is the digit.
 use borrow.Author.Needs.{needs}
-use borrow.Author.Tests.{lt-ltb, le-ltb}
 use native.Mathlib.Omega.{arith}
+use Rattle.lines.proofs.DigitTable.{entry-is-digit}
 use Rattle.lines.proofs.digit.digit_of.Statement.{statement}
 use Rattle.lines.proofs.digit.digit_of.Tie as tie
 
-add-result : tie.Need-add-result
-add-result c = search needs
-
-add-result-2 : tie.Need-add-result-2
-add-result-2 c = search needs
+array-read-result : tie.Need-array-read-result
+array-read-result c = search needs
 
 returns : tie.Need-returns
-returns c = simp (lt-ltb _ _ (c .if1 .taken))
-
-returns-2 : tie.Need-returns-2
-returns-2 c = simp (le-ltb _ _ (c .if1 .left)) (omega arith)
+returns c = entry-is-digit (c .args .n) (omega arith)
 
 pub digit-of-spec : {M : Type 1} → statement M
-digit-of-spec = tie.close (tie.spec add-result add-result-2 returns returns-2)
+digit-of-spec = tie.close (tie.spec array-read-result returns)
