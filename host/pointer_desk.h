@@ -1,14 +1,67 @@
 /*
- * The desk for C. The parts of document 01 are named with each call, and the desk keeps none of them.
+ * The desk for C. The host lends its tables with each call, and the desk keeps nothing: no memory, no state, no file.
+ *
+ * S sites, G pointers. What is lent (the desk of document 01):
+ *   owners      G bytes: which site owns each pointer
+ *   send        DESK_CELLS(S, G) counters; that of site s and pointer p at s x G + p
+ *   receive     DESK_CELLS(S, G) bytes, 0 or 1, at the same places: who holds
+ *   pool        DESK_POOL_BYTES(slots): the messages in flight, DESK_SLOT_BYTES each: kind (1 COPY, 2 DEC, 3 INC_DEC), from, to, third, pointer
+ * The in-order desk (document 02, Three): a pool of DESK_ORDERED_POOL_BYTES(slots), and
+ *   to_post, to_receive   DESK_PAIRS(S) numbers each: the next of each pair of sites, (a, b) at a x S + b
  * A length counts elements: counters of `send`, numbers of `to_post` and `to_receive`, counts of a sheet, bytes of the others.
  * A null pointer with length 0 is an empty part; parts do not overlap.
  * Counters, numbers and counts are aligned, as any uint16_t and uint32_t object is.
+ *
+ * Refusals. A call gives 0 or the first of its numbers that applies; after a refusal all lent memory holds what it held.
+ *   open        1, 2 (owners)
+ *   make copy   1, 2, 3, 4, 5, 6, 7
+ *   receive     1, 2, 3, 8; then a COPY 4; a DEC 9, 10; an INC_DEC 6
+ *   delete      1, 2, 3, 11, 5, 12, 7
+ *   ask         1, 2, 3, 13
+ *   share       1, 2, 3, 11
+ *   sheet       1, 2, 3; 1 too where the sheet has not 192 counts
+ *   in order    the same, but for
+ *   receive     1, 2, 3, 8, 21; then a COPY 4; a DEC 10; an INC_DEC 6
+ *   book        address 1, 2, 18, 3; check 1, 2, 18, 19; search 1, 2, 18, 3, 20
+ *   lines       write 15, 16, 14, 1; read 14, 15, 16
+ *
+ * Cost. A call looks at all that is lent, counters and numbers aside, so it grows with S x G and with the slots: some 10,000 to
+ * 30,000 instructions on the largest desk, some 500 on one of 3 sites, 4 pointers and 16 slots. Nothing is allocated and nothing waits.
+ * Threads. Calls on different memory may run at once. A desk that is shared needs a lock; the calls that take every part as const may share it.
+ * Links with the C library alone (memcpy, memset), into programs and shared objects for x86-64 Linux.
  */
 #ifndef POINTER_DESK_H
 #define POINTER_DESK_H
 
 #include <stddef.h>
 #include <stdint.h>
+
+/*
+ * The second number is the request of document 02 that landed last. Structs and parameters stay while the first two numbers do.
+ * Header and archive of one release belong together: the archive cannot tell which header it is called by.
+ */
+#define DESK_VERSION "0.3.0"
+#define DESK_VERSION_NUMBER 300 /* 10,000 x the first + 100 x the second + the third */
+
+/* The largest desk that opens; an opening needs at least one site. */
+#define DESK_MAX_SITES 64
+#define DESK_MAX_POINTERS 256
+#define DESK_MAX_SLOTS 1024
+
+/* How long a part is. */
+#define DESK_CELLS(S, G) ((size_t)(S) * (size_t)(G))
+#define DESK_PAIRS(S) ((size_t)(S) * (size_t)(S))
+#define DESK_POOL_BYTES(slots) ((size_t)(slots) * DESK_SLOT_BYTES)
+#define DESK_ORDERED_POOL_BYTES(slots) ((size_t)(slots) * DESK_ORDERED_SLOT_BYTES)
+
+/* An answer that is not looked at is warned of. */
+#if (defined(__cplusplus) && __cplusplus >= 201703L) || (defined(__STDC_VERSION__) && __STDC_VERSION__ >= 202311L)
+#define DESK_LOOK_AT [[nodiscard]]
+#elif defined(__GNUC__)
+#define DESK_LOOK_AT __attribute__((warn_unused_result))
+#else
+#define DESK_LOOK_AT
+#endif
 
 #ifdef __cplusplus
 extern "C" {
@@ -39,6 +92,15 @@ enum {
     DESK_NOT_LISTED = 20,
     DESK_OUT_OF_ORDER = 21
 };
+
+/* Its name in documents 01 and 02. */
+static inline const char *desk_refusal_name(uint8_t number) {
+    static const char *const names[] = {
+        "Accepted", "BadShape", "BadTable", "BadName", "SameSite", "NotHeld", "CounterFull", "PoolFull",
+        "EmptySlot", "Held", "CounterZero", "IsOwner", "StillCounted", "NotOwner", "BadLine", "UnknownCode",
+        "PrivateCode", "TooLong", "BadBook", "Twins", "NotListed", "OutOfOrder"};
+    return number < sizeof names / sizeof names[0] ? names[number] : "Unlisted";
+}
 
 /* What the host lends: the bytes of a slot. Share and sheet: the counts of a sheet. */
 enum { DESK_SLOT_BYTES = 5, DESK_SHEET_COUNTS = 192 };
@@ -90,37 +152,44 @@ typedef struct {
 } desk_line;
 
 /* What the host lends: an opening. */
+DESK_LOOK_AT
 desk_answer desk_open(uint8_t sites, const uint8_t *owners, size_t owners_len,
                       uint16_t *send, size_t send_len, uint8_t *receive, size_t receive_len,
                       uint8_t *pool, size_t pool_len);
 
 /* The calls: make copy. */
+DESK_LOOK_AT
 desk_answer desk_make_copy(uint8_t sites, const uint8_t *owners, size_t owners_len,
                            uint16_t *send, size_t send_len, const uint8_t *receive, size_t receive_len,
                            uint8_t *pool, size_t pool_len, uint8_t from, uint8_t to, uint8_t pointer);
 
 /* The calls: receive. */
+DESK_LOOK_AT
 desk_answer desk_receive(uint8_t sites, const uint8_t *owners, size_t owners_len,
                          uint16_t *send, size_t send_len, uint8_t *receive, size_t receive_len,
                          uint8_t *pool, size_t pool_len, uint16_t slot);
 
 /* The calls: delete. */
+DESK_LOOK_AT
 desk_answer desk_delete(uint8_t sites, const uint8_t *owners, size_t owners_len,
                         const uint16_t *send, size_t send_len, uint8_t *receive, size_t receive_len,
                         uint8_t *pool, size_t pool_len, uint8_t site, uint8_t pointer);
 
-/* The calls: ask. */
+/* The calls: ask; the value is 1 where nobody elsewhere points at it (the owner may drop it), else 0. */
+DESK_LOOK_AT
 desk_answer desk_ask(uint8_t sites, const uint8_t *owners, size_t owners_len,
                      const uint16_t *send, size_t send_len, const uint8_t *receive, size_t receive_len,
                      const uint8_t *pool, size_t pool_len, uint8_t site, uint8_t pointer);
 
 /* Share and sheet: the share of a site; 0 after a refusal. */
+DESK_LOOK_AT
 desk_share_answer desk_share(uint8_t sites, const uint8_t *owners, size_t owners_len,
                              const uint16_t *send, size_t send_len, const uint8_t *receive, size_t receive_len,
                              const uint8_t *pool, size_t pool_len, uint8_t site, uint8_t pointer);
 
 /* Share and sheet: 192 counts, row by row (COPY, DEC, INC_DEC), 64 columns; a message stands in the column of the site whose counter it acts on:
  * the sender of a COPY, the receiver of a DEC, the third site of an INC_DEC. All 0 after a refusal; another length gives 1, and nothing is written. */
+DESK_LOOK_AT
 uint8_t desk_sheet(uint8_t sites, const uint8_t *owners, size_t owners_len,
                    const uint16_t *send, size_t send_len, const uint8_t *receive, size_t receive_len,
                    const uint8_t *pool, size_t pool_len, uint8_t pointer, uint32_t *sheet, size_t sheet_len);
@@ -131,42 +200,49 @@ uint8_t desk_sheet(uint8_t sites, const uint8_t *owners, size_t owners_len,
  */
 
 /* In order: an opening; all numbers become 0. */
+DESK_LOOK_AT
 desk_ordered_answer desk_ordered_open(uint8_t sites, const uint8_t *owners, size_t owners_len,
                                       uint16_t *send, size_t send_len, uint8_t *receive, size_t receive_len,
                                       uint8_t *pool, size_t pool_len, uint16_t *to_post, size_t to_post_len,
                                       uint16_t *to_receive, size_t to_receive_len);
 
 /* In order: make copy. */
+DESK_LOOK_AT
 desk_ordered_answer desk_ordered_make_copy(uint8_t sites, const uint8_t *owners, size_t owners_len,
                                            uint16_t *send, size_t send_len, const uint8_t *receive, size_t receive_len,
                                            uint8_t *pool, size_t pool_len, uint16_t *to_post, size_t to_post_len,
                                            const uint16_t *to_receive, size_t to_receive_len, uint8_t from, uint8_t to, uint8_t pointer);
 
 /* In order: receive. */
+DESK_LOOK_AT
 desk_ordered_answer desk_ordered_receive(uint8_t sites, const uint8_t *owners, size_t owners_len,
                                          uint16_t *send, size_t send_len, uint8_t *receive, size_t receive_len,
                                          uint8_t *pool, size_t pool_len, uint16_t *to_post, size_t to_post_len,
                                          uint16_t *to_receive, size_t to_receive_len, uint16_t slot);
 
 /* In order: delete. */
+DESK_LOOK_AT
 desk_ordered_answer desk_ordered_delete(uint8_t sites, const uint8_t *owners, size_t owners_len,
                                         const uint16_t *send, size_t send_len, uint8_t *receive, size_t receive_len,
                                         uint8_t *pool, size_t pool_len, uint16_t *to_post, size_t to_post_len,
                                         const uint16_t *to_receive, size_t to_receive_len, uint8_t site, uint8_t pointer);
 
 /* In order: ask. */
+DESK_LOOK_AT
 desk_ordered_answer desk_ordered_ask(uint8_t sites, const uint8_t *owners, size_t owners_len,
                                      const uint16_t *send, size_t send_len, const uint8_t *receive, size_t receive_len,
                                      const uint8_t *pool, size_t pool_len, const uint16_t *to_post, size_t to_post_len,
                                      const uint16_t *to_receive, size_t to_receive_len, uint8_t site, uint8_t pointer);
 
 /* In order: the share of a site; 0 after a refusal. */
+DESK_LOOK_AT
 desk_share_answer desk_ordered_share(uint8_t sites, const uint8_t *owners, size_t owners_len,
                                      const uint16_t *send, size_t send_len, const uint8_t *receive, size_t receive_len,
                                      const uint8_t *pool, size_t pool_len, const uint16_t *to_post, size_t to_post_len,
                                      const uint16_t *to_receive, size_t to_receive_len, uint8_t site, uint8_t pointer);
 
 /* In order: the sheet of a pointer, as desk_sheet writes it. */
+DESK_LOOK_AT
 uint8_t desk_ordered_sheet(uint8_t sites, const uint8_t *owners, size_t owners_len,
                            const uint16_t *send, size_t send_len, const uint8_t *receive, size_t receive_len,
                            const uint8_t *pool, size_t pool_len, const uint16_t *to_post, size_t to_post_len,
@@ -174,14 +250,17 @@ uint8_t desk_ordered_sheet(uint8_t sites, const uint8_t *owners, size_t owners_l
                            uint32_t *sheet, size_t sheet_len);
 
 /* The address book: the address of a pointer; at 0 with length 0 after a refusal. */
+DESK_LOOK_AT
 desk_part desk_book_address(uint8_t sites, const uint8_t *owners, size_t owners_len,
                             const uint8_t *book, size_t book_len, uint8_t pointer);
 
 /* The address book: a check. */
+DESK_LOOK_AT
 desk_answer desk_book_check(uint8_t sites, const uint8_t *owners, size_t owners_len,
                             const uint8_t *book, size_t book_len);
 
 /* The address book: a search by owner and whole address. */
+DESK_LOOK_AT
 desk_answer desk_book_search(uint8_t sites, const uint8_t *owners, size_t owners_len,
                              const uint8_t *book, size_t book_len,
                              uint8_t owner, const uint8_t *address, size_t address_len);
@@ -190,15 +269,18 @@ desk_answer desk_book_search(uint8_t sites, const uint8_t *owners, size_t owners
  * Lines: the call of four bytes, as a line at the start of a text; the rest of the text stays.
  * 15, 16 or 14 where the bytes are no call, then 1 where the text is shorter than 9; then nothing is written.
  */
+DESK_LOOK_AT
 desk_answer desk_line_write(uint8_t code, uint8_t a, uint8_t b, uint8_t c, uint8_t *text, size_t text_len);
 
 /* Lines: what the reader that stands at a place of a text answers; at any place from the end on it has ended, and stays. */
+DESK_LOOK_AT
 desk_line desk_line_read(const uint8_t *text, size_t text_len, size_t at);
 
 /*
  * Lines: the program `desk` as a call: bytes written; nothing and 0 where the output has less than 139,264 bytes.
  * Its tables stand on the stack, about 55,000 bytes.
  */
+DESK_LOOK_AT
 size_t desk_run(const uint8_t *input, size_t input_len, uint8_t *output, size_t output_len);
 
 #ifdef __cplusplus

@@ -1,24 +1,37 @@
 // The desk for Rust: pointer_desk.h, declared and wrapped. Slices in, enums out; the desk keeps nothing.
-// A host says `#[allow(dead_code)] mod pointer_desk;`, since few hosts make every call.
+// With cargo it is the crate host/rust. Without, a host says `#[allow(dead_code)] mod pointer_desk;`, since few hosts make every call.
 
+use std::fmt;
 use std::num::NonZeroU16;
 
-// Why a call is turned down: the names and numbers, said once. A number that is not listed keeps its number.
+// Why a call is turned down: words, names and numbers, said once. A number that is not listed keeps its number.
 macro_rules! refusals {
-    ($($name:ident = $number:literal,)*) => {
-        #[derive(Clone, Copy, Debug, PartialEq, Eq)]
+    ($(#[doc = $words:literal] $name:ident = $number:literal,)*) => {
+        /// Why a call is turned down. After a refusal all lent memory holds what it held.
+        #[derive(Clone, Copy, Debug, PartialEq, Eq, Hash)]
         pub enum Refusal {
-            $($name,)*
+            $(#[doc = $words] $name,)*
+            /// a number that this module does not list
             Unlisted(u8),
         }
 
         impl Refusal {
+            /// All that document 01 and the requests that have landed list.
             pub const LISTED: &'static [Refusal] = &[$(Refusal::$name,)*];
 
+            /// Its number in document 01.
             pub fn number(self) -> u8 {
                 match self {
                     $(Refusal::$name => $number,)*
                     Refusal::Unlisted(number) => number,
+                }
+            }
+
+            // Its reason, as documented above.
+            fn words(self) -> &'static str {
+                match self {
+                    $(Refusal::$name => $words,)*
+                    Refusal::Unlisted(_) => " a number that this module does not list",
                 }
             }
 
@@ -35,30 +48,73 @@ macro_rules! refusals {
 }
 
 refusals! {
+    /// S, G, a length or the slot count is out of bounds
     BadShape = 1,
+    /// an owner, a receive byte or a slot is none
     BadTable = 2,
+    /// a site, pointer or slot number of the call is too large
     BadName = 3,
+    /// sender and receiver are the same site
     SameSite = 4,
+    /// the site does not hold the pointer
     NotHeld = 5,
+    /// a counter to be raised stands at 65,535
     CounterFull = 6,
+    /// no slot is empty
     PoolFull = 7,
+    /// the slot is empty
     EmptySlot = 8,
+    /// an INC_DEC of the same sender, receiver and pointer comes first
     Held = 9,
+    /// a DEC to a counter at 0
     CounterZero = 10,
+    /// the site owns the pointer
     IsOwner = 11,
+    /// the site's counter is not 0
     StillCounted = 12,
+    /// the site does not own the pointer
     NotOwner = 13,
+    /// the line breaks the form
     BadLine = 14,
+    /// no call has this code
     UnknownCode = 15,
+    /// the code is a private one
     PrivateCode = 16,
+    /// the input is above 8,192 bytes
     TooLong = 17,
+    /// the book is not exactly G entries
     BadBook = 18,
+    /// two pointers have equal owner and equal address
     Twins = 19,
+    /// no pointer has the wanted owner and address
     NotListed = 20,
+    /// the message is not the next of its pair
     OutOfOrder = 21,
 }
 
-// A posted message (document 01, The calls).
+impl fmt::Display for Refusal {
+    fn fmt(&self, f: &mut fmt::Formatter<'_>) -> fmt::Result {
+        match self {
+            Refusal::Unlisted(number) => write!(f, "{}:{}", number, self.words()),
+            listed => write!(f, "{}, {:?}:{}", listed.number(), listed, listed.words()),
+        }
+    }
+}
+
+impl std::error::Error for Refusal {}
+
+/// The largest desk that opens; an opening needs at least one site.
+pub const MAX_SITES: usize = 64;
+/// The most pointers of a desk.
+pub const MAX_POINTERS: usize = 256;
+/// The most slots of a pool.
+pub const MAX_SLOTS: usize = 1_024;
+/// The bytes of a slot: kind (1 COPY, 2 DEC, 3 INC_DEC), from, to, third, pointer.
+pub const SLOT_BYTES: usize = 5;
+/// The bytes of a slot of the in-order desk: the same, then the message's number, high byte first.
+pub const ORDERED_SLOT_BYTES: usize = 7;
+
+/// A posted message (document 01, The calls).
 #[derive(Clone, Copy, Debug, PartialEq, Eq)]
 pub enum Message {
     Copy { from: u8, to: u8, pointer: u8 },
@@ -66,7 +122,7 @@ pub enum Message {
     IncDec { from: u8, to: u8, third: u8, pointer: u8 },
 }
 
-// An accepted call: its value, the message that it posted, and how many slots were empty before: make copy and delete tell it.
+/// An accepted call: its value, the message that it posted, and how many slots were empty before: make copy and delete tell it.
 #[derive(Clone, Copy, Debug, PartialEq, Eq)]
 pub struct Accepted {
     pub value: u16,
@@ -74,25 +130,26 @@ pub struct Accepted {
     pub message: Option<Message>,
 }
 
+/// What a call answers.
 pub type Answer = Result<Accepted, Refusal>;
 
-// Rows for COPY, DEC and INC_DEC, with a column for each site: the one whose counter a message acts on (document 01, Share and sheet; document 02, Two).
+/// Rows for COPY, DEC and INC_DEC, with a column for each site: the one whose counter a message acts on (document 01, Share and sheet; document 02, Two).
 pub type Sheet = [[u32; 64]; 3];
 
-// The four bytes of a call (document 01, Lines).
+/// The four bytes of a call (document 01, Lines).
 pub type CallBytes = [u8; 4];
 
-// What a reader answers: what the line at its place says, and the place past it; or that it has ended, and stays.
+/// What a reader answers: what the line at its place says, and the place past it; or that it has ended, and stays.
 #[derive(Clone, Copy, Debug, PartialEq, Eq)]
 pub enum Next {
     Line { said: Result<CallBytes, Refusal>, at: usize },
     Ended,
 }
 
-// How long the output of a run must be.
+/// How long the output of a run must be.
 pub const RUN_ROOM: usize = 139_264;
 
-// What the host lends (document 01, What the host lends).
+/// What the host lends: G owners, S x G counters and cells, slots of five bytes (document 01, What the host lends).
 pub struct Lent<'a> {
     pub sites: u8,
     pub owners: &'a [u8],
@@ -101,8 +158,8 @@ pub struct Lent<'a> {
     pub pool: &'a mut [u8],
 }
 
-// What the host lends to the in-order desk: slots of seven bytes, and the next numbers to post and to receive, pair (a, b) at a x S + b
-// (document 02, Three). The number of a posted message is read in slot `value` of the pool.
+/// What the host lends to the in-order desk: slots of seven bytes, and the next numbers to post and to receive, pair (a, b) at a x S + b
+/// (document 02, Three). The number of a posted message is read in slot `value` of the pool.
 pub struct LentInOrder<'a> {
     pub sites: u8,
     pub owners: &'a [u8],
@@ -113,7 +170,7 @@ pub struct LentInOrder<'a> {
     pub to_receive: &'a mut [u16],
 }
 
-// An address book, with S and the owners of its pointers (document 01, The address book).
+/// An address book, with S and the owners of its pointers (document 01, The address book).
 #[derive(Clone, Copy)]
 pub struct Book<'a> {
     pub sites: u8,
@@ -158,9 +215,24 @@ struct CLine {
     at: usize,
 }
 
-#[rustfmt::skip]
-#[link(name = "pointer_desk", kind = "static")]
-extern "C" {
+// The library's calls. A compiler before 1.82 knows no `unsafe extern`, and is told so: `--cfg before_1_82`, which the crate's build.rs gives.
+macro_rules! library {
+    ($($declared:tt)*) => {
+        #[cfg(not(before_1_82))]
+        #[link(name = "pointer_desk", kind = "static")]
+        unsafe extern "C" {
+            $($declared)*
+        }
+
+        #[cfg(before_1_82)]
+        #[link(name = "pointer_desk", kind = "static")]
+        extern "C" {
+            $($declared)*
+        }
+    };
+}
+
+library! {
     fn desk_open(
         sites: u8, owners: *const u8, owners_len: usize, send: *mut u16, send_len: usize,
         receive: *mut u8, receive_len: usize, pool: *mut u8, pool_len: usize,
@@ -346,94 +418,215 @@ fn sheet(fill: impl FnOnce(*mut u32, usize) -> u8) -> Result<Sheet, Refusal> {
     unless_refused(number, || sheet)
 }
 
-impl Lent<'_> {
-    pub fn open(&mut self) -> Answer {
-        answer(writing!(desk_open, self))
+// The calls of a desk, from the macros that make them, how an answer is read, and the library's names.
+macro_rules! calls {
+    ($desk:ty, $writing:ident, $reading:ident, $answer:ident, $open:ident, $make_copy:ident, $receive:ident, $delete:ident, $ask:ident, $share:ident, $sheet:ident) => {
+        impl $desk {
+            /// Opens it: every counter 0, every cell 1 at the owner and 0 elsewhere, every slot empty. What it held is gone.
+            pub fn open(&mut self) -> Answer {
+                $answer($writing!($open, self))
+            }
+
+            /// Site `from` sends site `to` a copy; the value is the message's slot.
+            pub fn make_copy(&mut self, from: u8, to: u8, pointer: u8) -> Answer {
+                $answer($writing!($make_copy, self, from, to, pointer))
+            }
+
+            /// The message in a slot arrives; one that it posts takes the same slot.
+            pub fn receive(&mut self, slot: u16) -> Answer {
+                $answer($writing!($receive, self, slot))
+            }
+
+            /// A site that holds the pointer lets it go; the value is the message's slot.
+            pub fn delete(&mut self, site: u8, pointer: u8) -> Answer {
+                $answer($writing!($delete, self, site, pointer))
+            }
+
+            /// The value is 1 where nobody elsewhere points at it (its owner may drop it), else 0: to be accepted is no yes.
+            pub fn ask(&self, site: u8, pointer: u8) -> Answer {
+                $answer($reading!($ask, self, site, pointer))
+            }
+
+            /// What a site that is not the owner adds to the owner's counter.
+            pub fn share(&self, site: u8, pointer: u8) -> Result<i32, Refusal> {
+                share($reading!($share, self, site, pointer))
+            }
+
+            /// The messages in flight for a pointer, counted.
+            pub fn sheet(&self, pointer: u8) -> Result<Sheet, Refusal> {
+                sheet(|counts, len| $reading!($sheet, self, pointer, counts, len))
+            }
+        }
+    };
+}
+
+macro_rules! calls_of {
+    ($desk:ty) => {
+        calls!($desk, writing, reading, answer, desk_open, desk_make_copy, desk_receive, desk_delete, desk_ask, desk_share, desk_sheet);
+    };
+}
+
+macro_rules! calls_in_order {
+    ($desk:ty) => {
+        calls!(
+            $desk, writing_in_order, reading_in_order, answer_in_order, desk_ordered_open, desk_ordered_make_copy,
+            desk_ordered_receive, desk_ordered_delete, desk_ordered_ask, desk_ordered_share, desk_ordered_sheet
+        );
+    };
+}
+
+calls_of!(Lent<'_>);
+calls_of!(Desk);
+calls_in_order!(LentInOrder<'_>);
+calls_in_order!(DeskInOrder);
+
+// The bytes of a slot, where the pool has that slot.
+fn slot_bytes(pool: &[u8], width: usize, slot: u16) -> Option<&[u8]> {
+    pool.chunks_exact(width).nth(slot.into())
+}
+
+// The message in a slot, whose first five bytes it is.
+fn message_in(pool: &[u8], width: usize, slot: u16) -> Option<Message> {
+    let bytes = slot_bytes(pool, width, slot)?;
+    Message::of([bytes[0], bytes[1], bytes[2], bytes[3], bytes[4]])
+}
+
+/// A desk that owns what it lends: safe to move and to send; what writes takes `&mut`, so threads that share it need a lock.
+///
+/// ```
+/// # use pointer_desk::{Desk, Message, Refusal};
+/// # fn main() -> Result<(), Refusal> {
+/// // Two sites; one pointer, which site 0 owns; room for one message.
+/// let mut desk = Desk::new(2, &[0], 1)?;
+/// let copied = desk.make_copy(0, 1, 0)?;
+/// assert_eq!(copied.message, Some(Message::Copy { from: 0, to: 1, pointer: 0 }));
+/// assert_eq!(desk.ask(0, 0)?.value, 0); // a copy is on its way: not to be dropped
+/// assert_eq!(desk.make_copy(0, 1, 0), Err(Refusal::PoolFull));
+/// desk.receive(copied.value)?;
+/// let deleted = desk.delete(1, 0)?;
+/// desk.receive(deleted.value)?;
+/// assert_eq!(desk.ask(0, 0)?.value, 1); // nobody elsewhere points at it
+/// # Ok(())
+/// # }
+/// ```
+#[derive(Clone, Debug, PartialEq, Eq)]
+pub struct Desk {
+    sites: u8,
+    owners: Vec<u8>,
+    send: Vec<u16>,
+    receive: Vec<u8>,
+    pool: Vec<u8>,
+}
+
+impl Desk {
+    /// An opened desk of so many sites and slots, with an owner for each pointer.
+    ///
+    /// ```
+    /// # use pointer_desk::{Desk, Refusal};
+    /// assert!(Desk::new(64, &[0; 256], 1_024).is_ok());
+    /// assert_eq!(Desk::new(65, &[0], 4), Err(Refusal::BadShape));
+    /// assert_eq!(Desk::new(2, &[2], 4), Err(Refusal::BadTable));
+    /// assert_eq!(Refusal::BadTable.to_string(), "2, BadTable: an owner, a receive byte or a slot is none");
+    /// ```
+    pub fn new(sites: u8, owners: &[u8], slots: u16) -> Result<Desk, Refusal> {
+        let cells = cells(sites, owners)?;
+        let pool = vec![0; usize::from(slots) * SLOT_BYTES];
+        let mut desk = Desk { sites, owners: owners.to_vec(), send: vec![0; cells], receive: vec![0; cells], pool };
+        desk.open().map(|_| desk)
     }
 
-    pub fn make_copy(&mut self, from: u8, to: u8, pointer: u8) -> Answer {
-        answer(writing!(desk_make_copy, self, from, to, pointer))
-    }
-
-    pub fn receive(&mut self, slot: u16) -> Answer {
-        answer(writing!(desk_receive, self, slot))
-    }
-
-    pub fn delete(&mut self, site: u8, pointer: u8) -> Answer {
-        answer(writing!(desk_delete, self, site, pointer))
-    }
-
-    // The value is 1 where nobody elsewhere points at it, else 0.
-    pub fn ask(&self, site: u8, pointer: u8) -> Answer {
-        answer(reading!(desk_ask, self, site, pointer))
-    }
-
-    pub fn share(&self, site: u8, pointer: u8) -> Result<i32, Refusal> {
-        share(reading!(desk_share, self, site, pointer))
-    }
-
-    pub fn sheet(&self, pointer: u8) -> Result<Sheet, Refusal> {
-        sheet(|counts, len| reading!(desk_sheet, self, pointer, counts, len))
+    /// The message in a slot; none where it is empty, or where there is no such slot.
+    pub fn message(&self, slot: u16) -> Option<Message> {
+        message_in(&self.pool, SLOT_BYTES, slot)
     }
 }
 
-impl LentInOrder<'_> {
-    pub fn open(&mut self) -> Answer {
-        answer_in_order(writing_in_order!(desk_ordered_open, self))
+/// A desk for links that deliver in order, which owns what it lends (document 02, Three).
+///
+/// ```
+/// # use pointer_desk::{DeskInOrder, Refusal};
+/// # fn main() -> Result<(), Refusal> {
+/// let mut desk = DeskInOrder::new(2, &[0], 2)?;
+/// let first = desk.make_copy(0, 1, 0)?.value;
+/// let second = desk.make_copy(0, 1, 0)?.value;
+/// assert_eq!((desk.number(first), desk.number(second)), (Some(0), Some(1)));
+/// assert_eq!(desk.receive(second), Err(Refusal::OutOfOrder));
+/// desk.receive(first)?;
+/// desk.receive(second)?;
+/// # Ok(())
+/// # }
+/// ```
+#[derive(Clone, Debug, PartialEq, Eq)]
+pub struct DeskInOrder {
+    sites: u8,
+    owners: Vec<u8>,
+    send: Vec<u16>,
+    receive: Vec<u8>,
+    pool: Vec<u8>,
+    to_post: Vec<u16>,
+    to_receive: Vec<u16>,
+}
+
+impl DeskInOrder {
+    /// An opened desk of so many sites and slots, with an owner for each pointer.
+    pub fn new(sites: u8, owners: &[u8], slots: u16) -> Result<DeskInOrder, Refusal> {
+        let cells = cells(sites, owners)?;
+        let pairs = usize::from(sites) * usize::from(sites);
+        let pool = vec![0; usize::from(slots) * ORDERED_SLOT_BYTES];
+        let (send, receive, to_post, to_receive) = (vec![0; cells], vec![0; cells], vec![0; pairs], vec![0; pairs]);
+        let mut desk = DeskInOrder { sites, owners: owners.to_vec(), send, receive, pool, to_post, to_receive };
+        desk.open().map(|_| desk)
     }
 
-    pub fn make_copy(&mut self, from: u8, to: u8, pointer: u8) -> Answer {
-        answer_in_order(writing_in_order!(desk_ordered_make_copy, self, from, to, pointer))
+    /// The message in a slot; none where it is empty, or where there is no such slot.
+    pub fn message(&self, slot: u16) -> Option<Message> {
+        message_in(&self.pool, ORDERED_SLOT_BYTES, slot)
     }
 
-    pub fn receive(&mut self, slot: u16) -> Answer {
-        answer_in_order(writing_in_order!(desk_ordered_receive, self, slot))
+    /// The number of the message in a slot, which a host carries with it.
+    pub fn number(&self, slot: u16) -> Option<u16> {
+        self.message(slot)?;
+        let bytes = slot_bytes(&self.pool, ORDERED_SLOT_BYTES, slot)?;
+        Some(u16::from_be_bytes([bytes[5], bytes[6]]))
     }
+}
 
-    pub fn delete(&mut self, site: u8, pointer: u8) -> Answer {
-        answer_in_order(writing_in_order!(desk_ordered_delete, self, site, pointer))
+// How many counters and cells a desk has; no memory is taken for more pointers than any desk has.
+fn cells(sites: u8, owners: &[u8]) -> Result<usize, Refusal> {
+    if owners.len() > MAX_POINTERS {
+        return Err(Refusal::BadShape);
     }
-
-    // The value is 1 where nobody elsewhere points at it, else 0.
-    pub fn ask(&self, site: u8, pointer: u8) -> Answer {
-        answer_in_order(reading_in_order!(desk_ordered_ask, self, site, pointer))
-    }
-
-    pub fn share(&self, site: u8, pointer: u8) -> Result<i32, Refusal> {
-        share(reading_in_order!(desk_ordered_share, self, site, pointer))
-    }
-
-    pub fn sheet(&self, pointer: u8) -> Result<Sheet, Refusal> {
-        sheet(|counts, len| reading_in_order!(desk_ordered_sheet, self, pointer, counts, len))
-    }
+    Ok(usize::from(sites) * owners.len())
 }
 
 impl<'a> Book<'a> {
-    // The address of a pointer: a part of the lent entries.
+    /// The address of a pointer: a part of the lent entries.
     pub fn address(&self, pointer: u8) -> Result<&'a [u8], Refusal> {
         let part = asking!(desk_book_address, self, pointer);
         let entries = self.entries;
         unless_refused(part.number, || &entries[part.at..part.at + part.length])
     }
 
+    /// Whether the book is one, without twins.
     pub fn check(&self) -> Answer {
         answer(asking!(desk_book_check, self))
     }
 
-    // The value is the lowest pointer that has this owner and address. Safe for the address too: a slice and its length.
+    /// The value is the lowest pointer that has this owner and address.
     pub fn search(&self, owner: u8, address: &[u8]) -> Answer {
+        // Safe for the address too: a slice and its length.
         answer(asking!(desk_book_search, self, owner, address.as_ptr(), address.len()))
     }
 }
 
-// A call as a line at the start of a text: eight digits and a newline.
+/// A call as a line at the start of a text: eight digits and a newline.
 pub fn write_line(call: CallBytes, text: &mut [u8]) -> Answer {
     let [code, a, b, c] = call;
     // Safe: the pointer is a slice's, with that slice's own length, and `&mut` lets nobody else at it.
     answer(unsafe { desk_line_write(code, a, b, c, text.as_mut_ptr(), text.len()) })
 }
 
-// What the reader that stands at a place of a text answers.
+/// What the reader that stands at a place of a text answers.
 pub fn read_line(text: &[u8], at: usize) -> Next {
     // Safe: the pointer is a slice's, with that slice's own length, and the call takes it as const.
     let line = unsafe { desk_line_read(text.as_ptr(), text.len(), at) };
@@ -443,7 +636,7 @@ pub fn read_line(text: &[u8], at: usize) -> Next {
     Next::Line { said: unless_refused(line.number, || line.call), at: line.at }
 }
 
-// The program `desk` as a call: what it wrote, or none where the output is shorter than RUN_ROOM.
+/// The program `desk` as a call: what it wrote, or none where the output is shorter than RUN_ROOM.
 pub fn run<'a>(input: &[u8], output: &'a mut [u8]) -> Option<&'a [u8]> {
     // Safe: each pointer is a slice's, with that slice's own length, and `&mut` lets nobody else at the output.
     let written = unsafe { desk_run(input.as_ptr(), input.len(), output.as_mut_ptr(), output.len()) };

@@ -6,7 +6,8 @@ mod pointer_desk;
 use std::num::NonZeroU16;
 
 use pointer_desk::Message::{Copy, Dec, IncDec};
-use pointer_desk::{read_line, run, write_line, Accepted, Answer, Book, Lent, LentInOrder, Next, Refusal, Sheet, RUN_ROOM};
+use pointer_desk::{read_line, run, write_line, Accepted, Answer, Book, Desk, DeskInOrder, Lent, LentInOrder, Next, Refusal, Sheet, RUN_ROOM};
+use pointer_desk::{MAX_POINTERS, MAX_SITES, MAX_SLOTS, ORDERED_SLOT_BYTES, SLOT_BYTES};
 
 struct Tally {
     passed: usize,
@@ -324,6 +325,53 @@ fn runs(t: &mut Tally) {
     t.expect("a run into nothing", run(input, &mut []).is_none());
 }
 
+// The desk that owns its tables answers as the one that is lent them; its limits are those of an opening.
+fn owning(t: &mut Tally) {
+    let largest = (MAX_SITES as u8, [0; MAX_POINTERS], MAX_SLOTS as u16);
+    t.expect("owning, the largest", Desk::new(largest.0, &largest.1, largest.2).is_ok());
+    t.expect("owning, 65 sites", Desk::new(largest.0 + 1, &[0], 1) == Err(Refusal::BadShape));
+    t.expect("owning, no site", Desk::new(0, &[], 0) == Err(Refusal::BadShape));
+    t.expect("owning, 257 pointers", Desk::new(2, &[0; MAX_POINTERS + 1], 1) == Err(Refusal::BadShape));
+    t.expect("owning, 1,025 slots", Desk::new(2, &[0], largest.2 + 1) == Err(Refusal::BadShape));
+    t.expect("owning, an owner of 2", Desk::new(2, &[2], 1) == Err(Refusal::BadTable));
+    let mut tables = Tables::new(3, &[9, 9, 9], &[[9; SLOT_BYTES]; 2]);
+    let (mut desk, mut lent) = (Desk::new(3, &[0], 2).expect("it opens"), tables.lend());
+    t.expect("owning, opened", desk.open() == lent.open());
+    t.expect("owning, a copy", desk.make_copy(0, 1, 0) == lent.make_copy(0, 1, 0));
+    t.expect("owning, in its slot", desk.message(0) == Some(Copy { from: 0, to: 1, pointer: 0 }) && desk.message(1).is_none() && desk.message(2).is_none());
+    t.expect("owning, received", desk.receive(0) == lent.receive(0));
+    t.expect("owning, a delete", desk.delete(1, 0) == lent.delete(1, 0));
+    t.expect("owning, a share", desk.share(1, 0) == lent.share(1, 0));
+    t.expect("owning, a sheet", desk.sheet(0) == lent.sheet(0));
+    t.expect("owning, ask", desk.ask(0, 0) == lent.ask(0, 0) && desk.ask(0, 0) == accepted(0));
+    t.expect("owning, refused", desk.ask(1, 0) == Err(Refusal::NotOwner));
+}
+
+// The same in order, where a message has a number too.
+fn owning_in_order(t: &mut Tally) {
+    t.expect("owning in order, 65 sites", DeskInOrder::new(65, &[0], 1) == Err(Refusal::BadShape));
+    t.expect("owning in order, 257 pointers", DeskInOrder::new(2, &[0; 257], 1) == Err(Refusal::BadShape));
+    let mut tables = InOrder::new(Tables::new(3, &[9, 9, 9], &[[9; ORDERED_SLOT_BYTES]; 2]), &[], &[]);
+    let (mut desk, mut lent) = (DeskInOrder::new(3, &[0], 2).expect("it opens"), tables.lend());
+    t.expect("owning in order, opened", desk.open() == lent.open());
+    t.expect("owning in order, copies", desk.make_copy(0, 1, 0) == lent.make_copy(0, 1, 0) && desk.make_copy(0, 1, 0) == lent.make_copy(0, 1, 0));
+    t.expect("owning in order, in its slot", desk.message(1) == Some(Copy { from: 0, to: 1, pointer: 0 }) && desk.message(2).is_none());
+    t.expect("owning in order, its number", desk.number(0) == Some(0) && desk.number(1) == Some(1) && desk.number(2).is_none());
+    t.expect("owning in order, early", desk.receive(1) == Err(Refusal::OutOfOrder) && lent.receive(1) == Err(Refusal::OutOfOrder));
+    t.expect("owning in order, received", desk.receive(0) == lent.receive(0) && desk.number(0).is_none());
+    t.expect("owning in order, a delete", desk.delete(1, 0) == lent.delete(1, 0));
+    t.expect("owning in order, a share", desk.share(1, 0) == lent.share(1, 0));
+    t.expect("owning in order, a sheet", desk.sheet(0) == lent.sheet(0));
+    t.expect("owning in order, ask", desk.ask(0, 0) == lent.ask(0, 0) && desk.ask(0, 0) == accepted(0));
+}
+
+// A refusal in words, as any error.
+fn words(t: &mut Tally) {
+    let error: Box<dyn std::error::Error> = Refusal::PoolFull.into();
+    t.expect("a refusal in words", error.to_string() == "7, PoolFull: no slot is empty");
+    t.expect("an unlisted one", Refusal::Unlisted(99).to_string() == "99: a number that this module does not list");
+}
+
 fn main() {
     let mut t = Tally { passed: 0, failed: 0 };
     fourteen(&mut t);
@@ -338,6 +386,9 @@ fn main() {
     empty_slices(&mut t);
     lines(&mut t);
     runs(&mut t);
+    owning(&mut t);
+    owning_in_order(&mut t);
+    words(&mut t);
     let listed: Vec<u8> = Refusal::LISTED.iter().map(|r| r.number()).collect();
     t.expect("the numbers are 1 to 21", listed == (1..=21).collect::<Vec<u8>>());
     println!("{} passed, {} failed", t.passed, t.failed);

@@ -72,7 +72,7 @@ def the_incident():
     readme = read("README.md")
     hold("](docs/incident.svg)" in readme)
     rows = tool.rows_of(tool.process(path)[1])
-    printed = re.findall(r"^.*?  (accepted|refused|[01])(?:: (.*))?$", readme.split("Both print:")[1].split("```")[1], re.M)
+    printed = re.findall(r"^.*?  (accepted|refused|[01])(?:: (.*))?$", readme.split("Each prints:")[1].split("```")[1], re.M)
     told = [{"accepted": "accepted", "no": "0", "YES": "1"}.get(row["answer"], "refused") for row in rows]
     hold([answer for answer, _ in printed] == told, "%s, not %s" % (told, printed))
     posted = [re.sub(r"(\w+) from (\d+) to (\d+) in", r"posts \1 \2→\3 into", words) for _, words in printed if " in slot " in words]
