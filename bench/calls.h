@@ -53,16 +53,16 @@ INLINE int too_early(const lent *d, const uint8_t *m) { return m[0] == DEC && he
     uint8_t sites, const uint8_t *owners, size_t owners_len, SEND *send, size_t send_len, \
     RECEIVE *receive, size_t receive_len, POOL *pool, size_t pool_len NUMBERS_PART(TO_POST, TO_RECEIVE)
 #define LENT \
-    {sites, owners_len, pool_len / SLOT, owners, (uint16_t *)send, send_len, (uint8_t *)receive, receive_len, (uint8_t *)pool, pool_len NUMBERS_LENT}
+    {sites, owners_len, pool_len / SLOT, owners, (uint16_t *)send, send_len, (holders *)receive, receive_len, (uint8_t *)pool, pool_len NUMBERS_LENT}
 
-call_answer NAME(make_copy)(PARTS(uint16_t, const uint8_t, uint8_t, uint16_t, const uint16_t), uint8_t from, uint8_t to, uint8_t pointer) {
+call_answer NAME(make_copy)(PARTS(uint16_t, const holders, uint8_t, uint16_t, const uint16_t), uint8_t from, uint8_t to, uint8_t pointer) {
     const lent d = LENT;
     size_t empty;
     unsigned n = front(&d, (from < sites) & (to < sites) & (pointer < owners_len), &empty);
     if (n) return refused(n);
     size_t at = place(&d, from, pointer);
     if (from == to) return refused(SAME_SITE);
-    if ((from != owners[pointer]) & !receive[at]) return refused(NOT_HELD);
+    if ((from != owners[pointer]) & !is_held(receive, owners_len, from, pointer)) return refused(NOT_HELD);
     if (send[at] == 65535) return refused(COUNTER_FULL);
     if (!empty) return refused(POOL_FULL);
     send[at]++;
@@ -72,15 +72,14 @@ call_answer NAME(make_copy)(PARTS(uint16_t, const uint8_t, uint8_t, uint16_t, co
 INLINE call_answer receive_copy(const lent *d, size_t slot, unsigned a, unsigned b, unsigned pointer) {
     if (a == b) return refused(SAME_SITE);
     handled(d, a, b);
-    uint8_t *cell = d->receive + place(d, b, pointer);
-    if (*cell) return post(d, slot, DEC, b, a, 0, pointer);
-    *cell = 1;
+    if (is_held(d->receive, d->pointers, b, pointer)) return post(d, slot, DEC, b, a, 0, pointer);
+    set_held(d->receive, d->pointers, b, pointer, 1);
     unsigned owner = d->owners[pointer];
     if (a == owner) return post(d, slot, EMPTY, 0, 0, 0, 0);
     return post(d, slot, INC_DEC, b, owner, a, pointer);
 }
 
-call_answer NAME(receive)(PARTS(uint16_t, uint8_t, uint8_t, uint16_t, uint16_t), uint16_t slot) {
+call_answer NAME(receive)(PARTS(uint16_t, holders, uint8_t, uint16_t, uint16_t), uint16_t slot) {
     const lent d = LENT;
     unsigned n = front(&d, slot < d.slots, NULL);
     if (n) return refused(n);
@@ -102,7 +101,7 @@ call_answer NAME(receive)(PARTS(uint16_t, uint8_t, uint8_t, uint16_t, uint16_t),
     return post(&d, slot, DEC, b, third, 0, pointer);
 }
 
-call_answer NAME(delete)(PARTS(const uint16_t, uint8_t, uint8_t, uint16_t, const uint16_t), uint8_t site, uint8_t pointer) {
+call_answer NAME(delete)(PARTS(const uint16_t, holders, uint8_t, uint16_t, const uint16_t), uint8_t site, uint8_t pointer) {
     const lent d = LENT;
     size_t empty;
     unsigned n = front(&d, (site < sites) & (pointer < owners_len), &empty);
@@ -110,14 +109,14 @@ call_answer NAME(delete)(PARTS(const uint16_t, uint8_t, uint8_t, uint16_t, const
     size_t at = place(&d, site, pointer);
     unsigned owner = owners[pointer];
     if (site == owner) return refused(IS_OWNER);
-    if (!receive[at]) return refused(NOT_HELD);
+    if (!is_held(receive, owners_len, site, pointer)) return refused(NOT_HELD);
     if (send[at]) return refused(STILL_COUNTED);
     if (!empty) return refused(POOL_FULL);
-    receive[at] = 0;
+    set_held(receive, owners_len, site, pointer, 0);
     return telling(empty, post(&d, lowest_empty(&d), DEC, site, owner, 0, pointer));
 }
 
-call_answer NAME(ask)(PARTS(const uint16_t, const uint8_t, const uint8_t, const uint16_t, const uint16_t), uint8_t site, uint8_t pointer) {
+call_answer NAME(ask)(PARTS(const uint16_t, const holders, const uint8_t, const uint16_t, const uint16_t), uint8_t site, uint8_t pointer) {
     const lent d = LENT;
     unsigned n = front(&d, (site < sites) & (pointer < owners_len), NULL);
     if (n) return refused(n);
@@ -125,16 +124,16 @@ call_answer NAME(ask)(PARTS(const uint16_t, const uint8_t, const uint8_t, const 
     return accepted(send[place(&d, site, pointer)] == 0);
 }
 
-desk_share_answer NAME(share)(PARTS(const uint16_t, const uint8_t, const uint8_t, const uint16_t, const uint16_t), uint8_t site, uint8_t pointer) {
+desk_share_answer NAME(share)(PARTS(const uint16_t, const holders, const uint8_t, const uint16_t, const uint16_t), uint8_t site, uint8_t pointer) {
     const lent d = LENT;
     unsigned n = front(&d, (site < sites) & (pointer < owners_len), NULL);
     if (n) return (desk_share_answer){(uint8_t)n, 0};
     unsigned owner = owners[pointer];
     if (site == owner) return (desk_share_answer){IS_OWNER, 0};
-    return (desk_share_answer){0, receive[place(&d, site, pointer)] + pooled(&d, site, owner, pointer)};
+    return (desk_share_answer){0, (int32_t)is_held(receive, owners_len, site, pointer) + pooled(&d, site, owner, pointer)};
 }
 
-uint8_t NAME(sheet)(PARTS(const uint16_t, const uint8_t, const uint8_t, const uint16_t, const uint16_t), uint8_t pointer, uint32_t *sheet, size_t sheet_len) {
+uint8_t NAME(sheet)(PARTS(const uint16_t, const holders, const uint8_t, const uint16_t, const uint16_t), uint8_t pointer, uint32_t *sheet, size_t sheet_len) {
     const lent d = LENT;
     if (sheet_len != SHEET) return BAD_SHAPE;
     unsigned n = front(&d, pointer < owners_len, NULL);
@@ -142,3 +141,12 @@ uint8_t NAME(sheet)(PARTS(const uint16_t, const uint8_t, const uint8_t, const ui
     if (!n) enter(&d, pointer, sheet);
     return (uint8_t)n;
 }
+
+#ifdef WORDS
+call_answer NAME(count)(PARTS(const uint16_t, const holders, const uint8_t, const uint16_t, const uint16_t), uint8_t pointer) {
+    const lent d = LENT;
+    unsigned n = front(&d, pointer < owners_len, NULL);
+    if (n) return refused(n);
+    return accepted((size_t)__builtin_popcountll(receive[pointer]));
+}
+#endif

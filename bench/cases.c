@@ -1,7 +1,9 @@
 /* What is measured: for each call, random desks where it is answered as wanted. */
 #include "desks.h"
 
-static size_t cell(const desk *d, unsigned site, unsigned pointer) { return site * d->told.pointers + pointer; }
+static size_t place_of(const desk *d, unsigned site, unsigned pointer) { return site * d->told.pointers + pointer; }
+
+static void hold(desk *d, unsigned site, unsigned pointer, unsigned held) { set_held(d->receive, d->told.pointers, site, pointer, held); }
 
 static unsigned other_than(const desk *d, unsigned site) { return (site + 1 + pick(d->told.sites - 1u)) % d->told.sites; }
 
@@ -16,7 +18,7 @@ static desk *name_other(sample *s, call c) {
 static void make_copy(sample *s) {
     desk *d = name_other(s, MAKE_COPY);
     s->asked.b = (uint8_t)other_than(d, s->asked.a);
-    d->receive[cell(d, s->asked.a, s->asked.pointer)] = 1;
+    hold(d, s->asked.a, s->asked.pointer, 1);
 }
 
 static void make_copy_crowded(sample *s) {
@@ -27,9 +29,11 @@ static void make_copy_crowded(sample *s) {
     fill_slot(d, last, EMPTY, 0, 0, 0, 0);
 }
 
+/* A word of 64 sites has no bad bit: there the first owner is bad. */
 static void first_cell_bad(sample *s) {
     make_copy(s);
-    s->before.receive[0] = 2;
+    if (ON_WORDS) s->before.owners[0] = s->before.told.sites;
+    else s->before.receive[0] = 2;
 }
 
 static void last_slot_bad(sample *s) {
@@ -47,11 +51,11 @@ static desk *take_slot(sample *s) {
 }
 
 /* A COPY from the owner, or from another site, to a site whose cell is set or not. */
-static void receive_copy(sample *s, int from_owner, uint8_t set) {
+static void receive_copy(sample *s, int from_owner, unsigned set) {
     desk *d = take_slot(s);
     unsigned p = s->asked.pointer, owner = d->owners[p], from = from_owner ? owner : other_than(d, owner), to = other_than(d, from);
     fill_slot(d, s->asked.slot, COPY, from, to, 0, p);
-    d->receive[cell(d, to, p)] = set;
+    hold(d, to, p, set);
 }
 
 static void receive_copy_none(sample *s) { receive_copy(s, 1, 0); }
@@ -67,7 +71,7 @@ static void receive_dec(sample *s) {
         if (m[0] == INC_DEC && m[1] == from && m[2] == owner && m[4] == p) fill_slot(d, slot, COPY, from, owner, 0, p);
     }
     fill_slot(d, s->asked.slot, DEC, from, owner, 0, p);
-    d->send[cell(d, owner, p)] = 7;
+    d->send[place_of(d, owner, p)] = 7;
 }
 
 static void receive_inc_dec(sample *s) {
@@ -78,9 +82,8 @@ static void receive_inc_dec(sample *s) {
 
 static void delete_held(sample *s) {
     desk *d = name_other(s, DELETE);
-    size_t at = cell(d, s->asked.a, s->asked.pointer);
-    d->receive[at] = 1;
-    d->send[at] = 0;
+    hold(d, s->asked.a, s->asked.pointer, 1);
+    d->send[place_of(d, s->asked.a, s->asked.pointer)] = 0;
 }
 
 static void ask_owner(sample *s) {
@@ -90,6 +93,9 @@ static void ask_owner(sample *s) {
 
 static void share_of_other(sample *s) { name_other(s, SHARE); }
 static void sheet_of_pointer(sample *s) { name_other(s, WHOLE_SHEET); }
+#ifdef WORDS
+static void count_of_pointer(sample *s) { name_other(s, COUNT_HOLDERS); }
+#endif
 
 const measured CASES[] = {
     {"make copy", 0, make_copy},
@@ -103,7 +109,10 @@ const measured CASES[] = {
     {"share", 0, share_of_other},
     {"sheet", 0, sheet_of_pointer},
     {"make copy, one slot empty", 0, make_copy_crowded},
-    {"refused, first cell bad", BAD_TABLE, first_cell_bad},
+    {ON_WORDS ? "refused, first owner bad" : "refused, first cell bad", BAD_TABLE, first_cell_bad},
     {"refused, last slot bad", BAD_TABLE, last_slot_bad},
+#ifdef WORDS
+    {"count of holders", 0, count_of_pointer},
+#endif
 };
 const size_t CASE_COUNT = sizeof CASES / sizeof *CASES;

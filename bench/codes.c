@@ -9,6 +9,9 @@ typedef struct {
     __typeof__(LIBRARY(ask)) *ask;
     __typeof__(LIBRARY(share)) *share;
     __typeof__(LIBRARY(sheet)) *sheet;
+#ifdef WORDS
+    __typeof__(LIBRARY(count)) *count;
+#endif
 } code;
 
 __typeof__(LIBRARY(make_copy)) plain_make_copy, tuned_make_copy;
@@ -17,16 +20,22 @@ __typeof__(LIBRARY(delete)) plain_delete, tuned_delete;
 __typeof__(LIBRARY(ask)) plain_ask, tuned_ask;
 __typeof__(LIBRARY(share)) plain_share, tuned_share;
 __typeof__(LIBRARY(sheet)) plain_sheet, tuned_sheet;
+#ifdef WORDS
+__typeof__(LIBRARY(count)) plain_count, tuned_count;
+#define AND_COUNT(NAME) , NAME(count)
+#else
+#define AND_COUNT(NAME)
+#endif
 
 /* What a measurement costs by itself: taken off from all. */
 __attribute__((naked)) static void nothing(void) { __asm__("ret"); }
 
-static const volatile code TABLE[CODES] = {
-    {LIBRARY(make_copy), LIBRARY(receive), LIBRARY(delete), LIBRARY(ask), LIBRARY(share), LIBRARY(sheet)},
-    {plain_make_copy, plain_receive, plain_delete, plain_ask, plain_share, plain_sheet},
-    {tuned_make_copy, tuned_receive, tuned_delete, tuned_ask, tuned_share, tuned_sheet},
-    {(void *)nothing, (void *)nothing, (void *)nothing, (void *)nothing, (void *)nothing, (void *)nothing},
-};
+#define PLAIN_C(call) plain_##call
+#define TUNED_C(call) tuned_##call
+#define NO_CODE(call) (void *)nothing
+#define CODE(NAME) {NAME(make_copy), NAME(receive), NAME(delete), NAME(ask), NAME(share), NAME(sheet) AND_COUNT(NAME)}
+
+static const volatile code TABLE[CODES] = {CODE(LIBRARY), CODE(PLAIN_C), CODE(TUNED_C), CODE(NO_CODE)};
 
 uint32_t sheet[SHEET] __attribute__((aligned(64)));
 
@@ -56,6 +65,9 @@ answer made(int which, sample *s) {
     case DELETE: return of_call(c->delete(GIVEN, q.a, q.pointer));
     case ASK: return of_call(c->ask(GIVEN, q.a, q.pointer));
     case SHARE: return of_share(c->share(GIVEN, q.a, q.pointer));
+#ifdef WORDS
+    case COUNT_HOLDERS: return of_call(c->count(GIVEN, q.pointer));
+#endif
     default: return (answer){c->sheet(GIVEN, q.pointer, sheet, t->sheet_len), 0, 0, {0}, 0};
     }
 }

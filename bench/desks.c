@@ -25,7 +25,7 @@ static void place_desk(desk *d, uint8_t *block, const size *z) {
     d->block = block;
     d->block_len = 0;
     d->send = part(d, cells * sizeof *d->send);
-    d->receive = part(d, cells);
+    d->receive = part(d, holders_due(z->sites, z->pointers) * sizeof *d->receive);
     d->owners = part(d, z->pointers);
     d->pool = part(d, z->slots * SLOT);
     d->to_post = part(d, pairs(z) * sizeof *d->to_post);
@@ -58,12 +58,12 @@ void fill_random(desk *d, size_t slot) {
 
 void fill_desk(desk *d, const size *z) {
     size_t cells = z->sites * z->pointers, left = z->slots / 2;
-    d->told = (lengths){(uint8_t)z->sites, z->pointers, cells, cells, z->slots * SLOT, SHEET, pairs(z), pairs(z)};
+    d->told = (lengths){(uint8_t)z->sites, z->pointers, cells, holders_due(z->sites, z->pointers), z->slots * SLOT, SHEET, pairs(z), pairs(z)};
     __builtin_memset(d->block, 0, d->block_len);
     for (size_t p = 0; p < z->pointers; p++) d->owners[p] = (uint8_t)pick(d->told.sites);
     for (size_t i = 0; i < cells; i++) {
         d->send[i] = (uint16_t)(pick(2) * (1 + pick(9)));
-        d->receive[i] = (uint8_t)pick(2);
+        set_held(d->receive, z->pointers, i / z->pointers, i % z->pointers, pick(2));
     }
     for (size_t i = 0; i < pairs(z); i++) {
         d->to_post[i] = (uint16_t)pick(65536);
@@ -76,6 +76,13 @@ void fill_desk(desk *d, const size *z) {
         }
 }
 
+/* A byte that is neither 0 nor 1, or a bit at or above S, where a word has one. */
+static void damage_holders(desk *d) {
+    unsigned len = (unsigned)d->told.receive_len, sites = d->told.sites;
+    if (!ON_WORDS) d->receive[pick(len)] = (uint8_t)(2 + pick(254));
+    else if (sites < MOST_SITES) d->receive[pick(len)] |= (holders)((uint64_t)1 << (sites + pick(MOST_SITES - sites)));
+}
+
 /* One place of what is lent breaks document 01, or stands at an edge. */
 static void damage(desk *d) {
     lengths *t = &d->told;
@@ -86,7 +93,7 @@ static void damage(desk *d) {
     case 2: t->receive_len--; break;
     case 3: t->pool_len -= 1 + pick(4); break;
     case 4: d->owners[pick((unsigned)t->pointers)] = (uint8_t)(t->sites + pick(256u - t->sites)); break;
-    case 5: d->receive[pick((unsigned)t->receive_len)] = (uint8_t)(2 + pick(254)); break;
+    case 5: damage_holders(d); break;
     case 6: d->pool[at] = (uint8_t)pick(256); break;
     case 7: d->pool[at] = (uint8_t)(1 + pick(5)); break;
     case 8: for (size_t i = 0; i < t->send_len; i++) d->send[i] = pick(2) ? 65535 : 0; break;

@@ -19,11 +19,13 @@ typedef struct {
 typedef struct {
     lengths told;
     uint16_t *send, *to_post, *to_receive;
-    uint8_t *receive, *pool, *owners, *block;
+    holders *receive;
+    uint8_t *pool, *owners, *block;
     size_t block_len;
 } desk;
 
-typedef enum { MAKE_COPY, RECEIVE, DELETE, ASK, SHARE, WHOLE_SHEET, CALLS } call;
+/* Only the desk on words counts holders. */
+typedef enum { MAKE_COPY, RECEIVE, DELETE, ASK, SHARE, WHOLE_SHEET, COUNT_HOLDERS, CALLS = COUNT_HOLDERS + ON_WORDS } call;
 
 /* A call: sites a and b, or a site a, or a slot. */
 typedef struct {

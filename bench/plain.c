@@ -16,9 +16,19 @@ static int slot_good(const lent *d, const uint8_t *slot) {
     return slot[0] == INC_DEC ? slot[3] < d->sites : slot[3] == 0;
 }
 
+#ifdef WORDS
+static int holders_good(const lent *d) {
+    for (size_t p = 0; p < d->receive_len && d->sites < MOST_SITES; p++)
+        if (d->receive[p] >> d->sites) return 0;
+    return 1;
+}
+#else
+static int holders_good(const lent *d) { return all_below(d->receive, d->receive_len, 2); }
+#endif
+
 static int bad_table(const lent *d) {
     if (!all_below(d->owners, d->pointers, d->sites)) return 1;
-    if (!all_below(d->receive, d->receive_len, 2)) return 1;
+    if (!holders_good(d)) return 1;
     for (size_t slot = 0; slot < d->slots; slot++)
         if (!slot_good(d, d->pool + slot * SLOT)) return 1;
     return 0;

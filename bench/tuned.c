@@ -26,6 +26,19 @@ INLINE uint64_t seen_bytes(const uint8_t *b, size_t len, uint64_t room) {
     return seen;
 }
 
+/* What is seen of who holds that no good table shows; a word of 64 sites shows nothing. */
+#ifdef WORDS
+INLINE uint64_t bad_holders(const lent *d) {
+    uint64_t seen = 0;
+    if (d->sites == MOST_SITES) return 0;
+    _Pragma("clang loop vectorize(enable) interleave_count(8)")
+    for (size_t i = 0; i < d->receive_len; i++) seen |= d->receive[i];
+    return seen >> d->sites;
+}
+#else
+INLINE uint64_t bad_holders(const lent *d) { return seen_bytes(d->receive, d->receive_len, 0) & EVERY(0xfe); }
+#endif
+
 /* What a pass over the pool has seen: the or of all, the or of all with their room (kept apart it takes fewer steps), and how many slots were empty. */
 typedef struct {
     uint64_t seen, roomed;
@@ -67,7 +80,7 @@ INLINE int slots_good(const lent *d, size_t *empty) {
 INLINE unsigned front(const lent *d, int named, size_t *empty) {
     if (bad_shape(d)) return BAD_SHAPE;
     uint64_t seen = seen_bytes(d->owners, d->pointers, EVERY(128 - d->sites)) & EVERY(0x80);
-    seen |= seen_bytes(d->receive, d->receive_len, 0) & EVERY(0xfe);
+    seen |= bad_holders(d);
     if (seen || !slots_good(d, empty)) return BAD_TABLE;
     return named ? 0 : BAD_NAME;
 }

@@ -8,9 +8,11 @@
  *   pool        DESK_POOL_BYTES(slots): the messages in flight, DESK_SLOT_BYTES each: kind (1 COPY, 2 DEC, 3 INC_DEC), from, to, third, pointer
  * The in-order desk (document 02, Three): a pool of DESK_ORDERED_POOL_BYTES(slots), and
  *   to_post, to_receive   DESK_PAIRS(S) numbers each: the next of each pair of sites, (a, b) at a x S + b
- * A length counts elements: counters of `send`, numbers of `to_post` and `to_receive`, counts of a sheet, bytes of the others.
+ * The desk on words (document 02, Five): in place of `receive`
+ *   words       G words of 64 bits: bit s of word p is 1 where site s holds pointer p; no bit at or above S is set
+ * A length counts elements: counters of `send`, numbers of `to_post` and `to_receive`, words of `words`, counts of a sheet, bytes of the others.
  * A null pointer with length 0 is an empty part; parts do not overlap.
- * Counters, numbers and counts are aligned, as any uint16_t and uint32_t object is.
+ * Counters, numbers, words and counts are aligned, as any uint16_t, uint64_t and uint32_t object is: words at multiples of 8 bytes.
  *
  * Refusals. A call gives 0 or the first of its numbers that applies; after a refusal all lent memory holds what it held.
  *   open        1, 2 (owners)
@@ -22,10 +24,13 @@
  *   sheet       1, 2, 3; 1 too where the sheet has not 192 counts
  *   in order    the same, but for
  *   receive     1, 2, 3, 8, 21; then a COPY 4; a DEC 10; an INC_DEC 6
+ *   on words    the same as the desk of document 01, and
+ *   count       1, 2, 3
+ *   pack        1, 2; so does unpack
  *   book        address 1, 2, 18, 3; check 1, 2, 18, 19; search 1, 2, 18, 3, 20
  *   lines       write 15, 16, 14, 1; read 14, 15, 16
  *
- * Cost. A call looks at all that is lent, counters and numbers aside, so it grows with S x G and with the slots: some 10,000 to
+ * Cost. A call looks at all that is lent, counters and numbers aside, so it grows with S x G (on words with G) and with the slots: some 10,000 to
  * 30,000 instructions on the largest desk, some 500 on one of 3 sites, 4 pointers and 16 slots. Nothing is allocated and nothing waits.
  * Threads. Calls on different memory may run at once. A desk that is shared needs a lock; the calls that take every part as const may share it.
  * Links with the C library alone (memcpy, memset), into programs and shared objects for x86-64 Linux.
@@ -40,8 +45,8 @@
  * The second number is the request of document 02 that landed last. Structs and parameters stay while the first two numbers do.
  * Header and archive of one release belong together: the archive cannot tell which header it is called by.
  */
-#define DESK_VERSION "0.3.0"
-#define DESK_VERSION_NUMBER 300 /* 10,000 x the first + 100 x the second + the third */
+#define DESK_VERSION "0.5.0"
+#define DESK_VERSION_NUMBER 500 /* 10,000 x the first + 100 x the second + the third */
 
 /* The largest desk that opens; an opening needs at least one site. */
 #define DESK_MAX_SITES 64
@@ -248,6 +253,70 @@ uint8_t desk_ordered_sheet(uint8_t sites, const uint8_t *owners, size_t owners_l
                            const uint8_t *pool, size_t pool_len, const uint16_t *to_post, size_t to_post_len,
                            const uint16_t *to_receive, size_t to_receive_len, uint8_t pointer,
                            uint32_t *sheet, size_t sheet_len);
+
+/*
+ * The desk on words (document 02, Five), which answers as the desk of document 01 does: in place of the receive bytes it is lent a word for
+ * each pointer, site s at bit s. Not exactly G words give 1, a set bit at or above S gives 2.
+ */
+
+/* On words: an opening; each word becomes its owner's bit. */
+DESK_LOOK_AT
+desk_answer desk_words_open(uint8_t sites, const uint8_t *owners, size_t owners_len,
+                            uint16_t *send, size_t send_len, uint64_t *words, size_t words_len,
+                            uint8_t *pool, size_t pool_len);
+
+/* On words: make copy. */
+DESK_LOOK_AT
+desk_answer desk_words_make_copy(uint8_t sites, const uint8_t *owners, size_t owners_len,
+                                 uint16_t *send, size_t send_len, const uint64_t *words, size_t words_len,
+                                 uint8_t *pool, size_t pool_len, uint8_t from, uint8_t to, uint8_t pointer);
+
+/* On words: receive. */
+DESK_LOOK_AT
+desk_answer desk_words_receive(uint8_t sites, const uint8_t *owners, size_t owners_len,
+                               uint16_t *send, size_t send_len, uint64_t *words, size_t words_len,
+                               uint8_t *pool, size_t pool_len, uint16_t slot);
+
+/* On words: delete. */
+DESK_LOOK_AT
+desk_answer desk_words_delete(uint8_t sites, const uint8_t *owners, size_t owners_len,
+                              const uint16_t *send, size_t send_len, uint64_t *words, size_t words_len,
+                              uint8_t *pool, size_t pool_len, uint8_t site, uint8_t pointer);
+
+/* On words: ask. */
+DESK_LOOK_AT
+desk_answer desk_words_ask(uint8_t sites, const uint8_t *owners, size_t owners_len,
+                           const uint16_t *send, size_t send_len, const uint64_t *words, size_t words_len,
+                           const uint8_t *pool, size_t pool_len, uint8_t site, uint8_t pointer);
+
+/* On words: the value is how many sites hold the pointer, its owner among them; no message, and nothing changes. */
+DESK_LOOK_AT
+desk_answer desk_words_count(uint8_t sites, const uint8_t *owners, size_t owners_len,
+                             const uint16_t *send, size_t send_len, const uint64_t *words, size_t words_len,
+                             const uint8_t *pool, size_t pool_len, uint8_t pointer);
+
+/* On words: the share of a site; 0 after a refusal. */
+DESK_LOOK_AT
+desk_share_answer desk_words_share(uint8_t sites, const uint8_t *owners, size_t owners_len,
+                                   const uint16_t *send, size_t send_len, const uint64_t *words, size_t words_len,
+                                   const uint8_t *pool, size_t pool_len, uint8_t site, uint8_t pointer);
+
+/* On words: the sheet of a pointer, as desk_sheet writes it. */
+DESK_LOOK_AT
+uint8_t desk_words_sheet(uint8_t sites, const uint8_t *owners, size_t owners_len,
+                         const uint16_t *send, size_t send_len, const uint64_t *words, size_t words_len,
+                         const uint8_t *pool, size_t pool_len, uint8_t pointer, uint32_t *sheet, size_t sheet_len);
+
+/*
+ * On words: receive bytes as words. 1 where sites is not 1 to 64, there are more than 256 words, or not sites x words bytes; 2 where a byte
+ * is above 1. After a refusal nothing is written.
+ */
+DESK_LOOK_AT
+uint8_t desk_words_pack(uint8_t sites, const uint8_t *receive, size_t receive_len, uint64_t *words, size_t words_len);
+
+/* On words: words as receive bytes. 1 likewise; 2 where a bit at or above sites is set. After a refusal nothing is written. */
+DESK_LOOK_AT
+uint8_t desk_words_unpack(uint8_t sites, const uint64_t *words, size_t words_len, uint8_t *receive, size_t receive_len);
 
 /* The address book: the address of a pointer; at 0 with length 0 after a refusal. */
 DESK_LOOK_AT

@@ -216,8 +216,9 @@ struct Parts {
     std::uint8_t *owners;
     std::size_t pointers;
     std::uint16_t *send;
-    std::uint8_t *receive;
     std::size_t cells;
+    std::uint8_t *receive;
+    std::uint64_t *words;
     std::uint8_t *pool;
     std::size_t pool_bytes;
     std::uint16_t *to_post, *to_receive;
@@ -227,7 +228,7 @@ struct Parts {
 // The desk of document 01: its slots, and how its calls are made.
 struct Plain {
     static constexpr std::size_t slot_bytes = DESK_SLOT_BYTES;
-    static constexpr bool numbered = false;
+    static constexpr bool numbered = false, in_words = false;
     static constexpr auto open = desk_open;
     static constexpr auto make_copy = desk_make_copy;
     static constexpr auto receive = desk_receive;
@@ -245,7 +246,7 @@ struct Plain {
 // The in-order desk (document 02, Three).
 struct InOrder {
     static constexpr std::size_t slot_bytes = DESK_ORDERED_SLOT_BYTES;
-    static constexpr bool numbered = true;
+    static constexpr bool numbered = true, in_words = false;
     static constexpr auto open = desk_ordered_open;
     static constexpr auto make_copy = desk_ordered_make_copy;
     static constexpr auto receive = desk_ordered_receive;
@@ -258,6 +259,24 @@ struct InOrder {
     static auto made(Call call, const Parts &p, Arguments... arguments) noexcept {
         return call(p.sites, p.owners, p.pointers, p.send, p.cells, p.receive, p.cells, p.pool, p.pool_bytes,
                     p.to_post, p.pairs, p.to_receive, p.pairs, arguments...);
+    }
+};
+
+// The desk on words (document 02, Five).
+struct InWords {
+    static constexpr std::size_t slot_bytes = DESK_SLOT_BYTES;
+    static constexpr bool numbered = false, in_words = true;
+    static constexpr auto open = desk_words_open;
+    static constexpr auto make_copy = desk_words_make_copy;
+    static constexpr auto receive = desk_words_receive;
+    static constexpr auto remove = desk_words_delete;
+    static constexpr auto ask = desk_words_ask;
+    static constexpr auto share = desk_words_share;
+    static constexpr auto sheet = desk_words_sheet;
+
+    template <class Call, class... Arguments>
+    static auto made(Call call, const Parts &p, Arguments... arguments) noexcept {
+        return call(p.sites, p.owners, p.pointers, p.send, p.cells, p.words, p.pointers, p.pool, p.pool_bytes, arguments...);
     }
 };
 
@@ -326,6 +345,14 @@ public:
         return sheet;
     }
 
+    // On words: how many sites hold the pointer, its owner among them.
+    Result<std::uint16_t> count_holders(Pointer pointer) const noexcept {
+        static_assert(Kind::in_words, "only the desk on words counts holders");
+        const desk_answer a = Kind::made(desk_words_count, parts(), pointer.number());
+        if (a.number != DESK_ACCEPTED) return Refusal(a.number);
+        return a.value;
+    }
+
     // The message in a slot; none where it is empty, or where there is no such slot.
     [[nodiscard]] std::optional<Message> message(Slot slot) const noexcept {
         if (slot.number() >= sizes_.slots) return std::nullopt;
@@ -348,20 +375,25 @@ private:
         Sizes(std::size_t s, std::size_t g, std::size_t n) : sites(s), pointers(g), slots(n) {}
         [[nodiscard]] std::size_t cells() const noexcept { return DESK_CELLS(sites, pointers); }
         [[nodiscard]] std::size_t pairs() const noexcept { return Kind::numbered ? DESK_PAIRS(sites) : 0; }
-        [[nodiscard]] std::size_t words() const noexcept { return cells() + 2 * pairs(); }
-        [[nodiscard]] std::size_t bytes() const noexcept { return cells() + slots * Kind::slot_bytes + pointers; }
+        [[nodiscard]] std::size_t words() const noexcept { return Kind::in_words ? pointers : 0; }
+        [[nodiscard]] std::size_t receive() const noexcept { return Kind::in_words ? 0 : cells(); }
+        [[nodiscard]] std::size_t pool() const noexcept { return slots * Kind::slot_bytes; }
+        [[nodiscard]] std::size_t all() const noexcept {
+            return words() * sizeof(std::uint64_t) + (cells() + 2 * pairs()) * sizeof(std::uint16_t) + receive() + pool() + pointers;
+        }
     };
 
-    // Counters and numbers first, for which the memory is aligned; then the bytes.
-    explicit BasicDesk(Sizes sizes) : sizes_(sizes), memory_(std::make_unique<std::uint16_t[]>(sizes.words() + (sizes.bytes() + 1) / 2)) {}
+    // Bytes that are aligned for anything: words first, then counters and numbers, then bytes.
+    explicit BasicDesk(Sizes sizes) : sizes_(sizes), memory_(std::make_unique<unsigned char[]>(sizes.all())) {}
 
     [[nodiscard]] detail::Parts parts() const noexcept {
         if (!memory_) return detail::Parts{};
-        std::uint16_t *words = memory_.get();
-        auto *bytes = reinterpret_cast<std::uint8_t *>(words + sizes_.words());
-        const std::size_t cells = sizes_.cells(), pairs = sizes_.pairs(), pool = sizes_.slots * Kind::slot_bytes;
-        return {static_cast<std::uint8_t>(sizes_.sites), bytes + cells + pool, sizes_.pointers, words, bytes, cells,
-                bytes + cells, pool, words + cells, words + cells + pairs, pairs};
+        const std::size_t cells = sizes_.cells(), pairs = sizes_.pairs();
+        auto *words = reinterpret_cast<std::uint64_t *>(memory_.get());
+        auto *numbers = reinterpret_cast<std::uint16_t *>(words + sizes_.words());
+        auto *bytes = reinterpret_cast<std::uint8_t *>(numbers + cells + 2 * pairs), *pool = bytes + sizes_.receive();
+        return {static_cast<std::uint8_t>(sizes_.sites), pool + sizes_.pool(), sizes_.pointers, numbers, cells, bytes, words,
+                pool, sizes_.pool(), numbers + cells, numbers + cells + pairs, pairs};
     }
 
     [[nodiscard]] const std::uint8_t *bytes_of(Slot slot) const noexcept { return parts().pool + slot.number() * Kind::slot_bytes; }
@@ -374,11 +406,12 @@ private:
     }
 
     Sizes sizes_;
-    std::unique_ptr<std::uint16_t[]> memory_;
+    std::unique_ptr<unsigned char[]> memory_;
 };
 
 using Desk = BasicDesk<detail::Plain>;
 using OrderedDesk = BasicDesk<detail::InOrder>;
+using WordDesk = BasicDesk<detail::InWords>;
 
 } // namespace pointer_desk
 

@@ -50,7 +50,7 @@ macro_rules! refusals {
 refusals! {
     /// S, G, a length or the slot count is out of bounds
     BadShape = 1,
-    /// an owner, a receive byte or a slot is none
+    /// an owner, a receive byte or word, or a slot is none
     BadTable = 2,
     /// a site, pointer or slot number of the call is too large
     BadName = 3,
@@ -168,6 +168,15 @@ pub struct LentInOrder<'a> {
     pub pool: &'a mut [u8],
     pub to_post: &'a mut [u16],
     pub to_receive: &'a mut [u16],
+}
+
+/// What the host lends to the desk on words: in place of the receive bytes a word for each pointer, site s at bit s (document 02, Five).
+pub struct LentInWords<'a> {
+    pub sites: u8,
+    pub owners: &'a [u8],
+    pub send: &'a mut [u16],
+    pub words: &'a mut [u64],
+    pub pool: &'a mut [u8],
 }
 
 /// An address book, with S and the owners of its pointers (document 01, The address book).
@@ -298,6 +307,41 @@ library! {
         to_post: *const u16, to_post_len: usize, to_receive: *const u16, to_receive_len: usize, pointer: u8,
         sheet: *mut u32, sheet_len: usize,
     ) -> u8;
+    fn desk_words_open(
+        sites: u8, owners: *const u8, owners_len: usize, send: *mut u16, send_len: usize,
+        words: *mut u64, words_len: usize, pool: *mut u8, pool_len: usize,
+    ) -> CAnswer;
+    fn desk_words_make_copy(
+        sites: u8, owners: *const u8, owners_len: usize, send: *mut u16, send_len: usize,
+        words: *const u64, words_len: usize, pool: *mut u8, pool_len: usize, from: u8, to: u8, pointer: u8,
+    ) -> CAnswer;
+    fn desk_words_receive(
+        sites: u8, owners: *const u8, owners_len: usize, send: *mut u16, send_len: usize,
+        words: *mut u64, words_len: usize, pool: *mut u8, pool_len: usize, slot: u16,
+    ) -> CAnswer;
+    fn desk_words_delete(
+        sites: u8, owners: *const u8, owners_len: usize, send: *const u16, send_len: usize,
+        words: *mut u64, words_len: usize, pool: *mut u8, pool_len: usize, site: u8, pointer: u8,
+    ) -> CAnswer;
+    fn desk_words_ask(
+        sites: u8, owners: *const u8, owners_len: usize, send: *const u16, send_len: usize,
+        words: *const u64, words_len: usize, pool: *const u8, pool_len: usize, site: u8, pointer: u8,
+    ) -> CAnswer;
+    fn desk_words_count(
+        sites: u8, owners: *const u8, owners_len: usize, send: *const u16, send_len: usize,
+        words: *const u64, words_len: usize, pool: *const u8, pool_len: usize, pointer: u8,
+    ) -> CAnswer;
+    fn desk_words_share(
+        sites: u8, owners: *const u8, owners_len: usize, send: *const u16, send_len: usize,
+        words: *const u64, words_len: usize, pool: *const u8, pool_len: usize, site: u8, pointer: u8,
+    ) -> CShare;
+    fn desk_words_sheet(
+        sites: u8, owners: *const u8, owners_len: usize, send: *const u16, send_len: usize,
+        words: *const u64, words_len: usize, pool: *const u8, pool_len: usize, pointer: u8,
+        sheet: *mut u32, sheet_len: usize,
+    ) -> u8;
+    fn desk_words_pack(sites: u8, receive: *const u8, receive_len: usize, words: *mut u64, words_len: usize) -> u8;
+    fn desk_words_unpack(sites: u8, words: *const u64, words_len: usize, receive: *mut u8, receive_len: usize) -> u8;
     fn desk_book_address(
         sites: u8, owners: *const u8, owners_len: usize, book: *const u8, book_len: usize, pointer: u8,
     ) -> CPart;
@@ -313,14 +357,14 @@ library! {
     fn desk_run(input: *const u8, input_len: usize, output: *mut u8, output_len: usize) -> usize;
 }
 
-// A call that may write what is lent.
-macro_rules! writing {
-    ($call:ident, $lent:expr $(, $argument:expr)*) => {
+// A call that may write what is lent; who holds stands in the part of this name.
+macro_rules! writing_with {
+    ($cells:ident, $call:ident, $lent:expr $(, $argument:expr)*) => {
         // Safe: each pointer is a slice's, with that slice's own length, and `&mut` lets nobody else at it.
         unsafe {
             $call(
                 $lent.sites, $lent.owners.as_ptr(), $lent.owners.len(), $lent.send.as_mut_ptr(), $lent.send.len(),
-                $lent.receive.as_mut_ptr(), $lent.receive.len(), $lent.pool.as_mut_ptr(), $lent.pool.len(),
+                $lent.$cells.as_mut_ptr(), $lent.$cells.len(), $lent.pool.as_mut_ptr(), $lent.pool.len(),
                 $($argument),*
             )
         }
@@ -328,17 +372,34 @@ macro_rules! writing {
 }
 
 // A call that only reads what is lent.
-macro_rules! reading {
-    ($call:ident, $lent:expr $(, $argument:expr)*) => {
+macro_rules! reading_with {
+    ($cells:ident, $call:ident, $lent:expr $(, $argument:expr)*) => {
         // Safe: each pointer is a slice's, with that slice's own length, and the call takes the parts as const.
         unsafe {
             $call(
                 $lent.sites, $lent.owners.as_ptr(), $lent.owners.len(), $lent.send.as_ptr(), $lent.send.len(),
-                $lent.receive.as_ptr(), $lent.receive.len(), $lent.pool.as_ptr(), $lent.pool.len(),
+                $lent.$cells.as_ptr(), $lent.$cells.len(), $lent.pool.as_ptr(), $lent.pool.len(),
                 $($argument),*
             )
         }
     };
+}
+
+// The same of the desk of document 01, and of the desk on words.
+macro_rules! writing {
+    ($($call:tt)*) => { writing_with!(receive, $($call)*) };
+}
+
+macro_rules! reading {
+    ($($call:tt)*) => { reading_with!(receive, $($call)*) };
+}
+
+macro_rules! writing_in_words {
+    ($($call:tt)*) => { writing_with!(words, $($call)*) };
+}
+
+macro_rules! reading_in_words {
+    ($($call:tt)*) => { reading_with!(words, $($call)*) };
 }
 
 // The same of the in-order desk: its tables of numbers come after the pool, each a slice and its length.
@@ -475,10 +536,28 @@ macro_rules! calls_in_order {
     };
 }
 
+macro_rules! calls_in_words {
+    ($desk:ty) => {
+        calls!(
+            $desk, writing_in_words, reading_in_words, answer, desk_words_open, desk_words_make_copy, desk_words_receive,
+            desk_words_delete, desk_words_ask, desk_words_share, desk_words_sheet
+        );
+
+        impl $desk {
+            /// How many sites hold the pointer, its owner among them.
+            pub fn count_holders(&self, pointer: u8) -> Result<u16, Refusal> {
+                answer(reading_in_words!(desk_words_count, self, pointer)).map(|a| a.value)
+            }
+        }
+    };
+}
+
 calls_of!(Lent<'_>);
 calls_of!(Desk);
 calls_in_order!(LentInOrder<'_>);
 calls_in_order!(DeskInOrder);
+calls_in_words!(LentInWords<'_>);
+calls_in_words!(DeskInWords);
 
 // The bytes of a slot, where the pool has that slot.
 fn slot_bytes(pool: &[u8], width: usize, slot: u16) -> Option<&[u8]> {
@@ -526,7 +605,7 @@ impl Desk {
     /// assert!(Desk::new(64, &[0; 256], 1_024).is_ok());
     /// assert_eq!(Desk::new(65, &[0], 4), Err(Refusal::BadShape));
     /// assert_eq!(Desk::new(2, &[2], 4), Err(Refusal::BadTable));
-    /// assert_eq!(Refusal::BadTable.to_string(), "2, BadTable: an owner, a receive byte or a slot is none");
+    /// assert_eq!(Refusal::BadTable.to_string(), "2, BadTable: an owner, a receive byte or word, or a slot is none");
     /// ```
     pub fn new(sites: u8, owners: &[u8], slots: u16) -> Result<Desk, Refusal> {
         let cells = cells(sites, owners)?;
@@ -589,6 +668,67 @@ impl DeskInOrder {
         let bytes = slot_bytes(&self.pool, ORDERED_SLOT_BYTES, slot)?;
         Some(u16::from_be_bytes([bytes[5], bytes[6]]))
     }
+}
+
+/// A desk on words, which owns what it lends: it answers as [`Desk`] does, and counts holders (document 02, Five).
+///
+/// ```
+/// # use pointer_desk::{DeskInWords, Refusal};
+/// # fn main() -> Result<(), Refusal> {
+/// let mut desk = DeskInWords::new(2, &[0], 1)?;
+/// assert_eq!(desk.count_holders(0)?, 1); // its owner
+/// let copied = desk.make_copy(0, 1, 0)?;
+/// desk.receive(copied.value)?;
+/// assert_eq!(desk.count_holders(0)?, 2);
+/// # Ok(())
+/// # }
+/// ```
+#[derive(Clone, Debug, PartialEq, Eq)]
+pub struct DeskInWords {
+    sites: u8,
+    owners: Vec<u8>,
+    send: Vec<u16>,
+    words: Vec<u64>,
+    pool: Vec<u8>,
+}
+
+impl DeskInWords {
+    /// An opened desk of so many sites and slots, with an owner for each pointer.
+    pub fn new(sites: u8, owners: &[u8], slots: u16) -> Result<DeskInWords, Refusal> {
+        let cells = cells(sites, owners)?;
+        let pool = vec![0; usize::from(slots) * SLOT_BYTES];
+        let mut desk = DeskInWords { sites, owners: owners.to_vec(), send: vec![0; cells], words: vec![0; owners.len()], pool };
+        desk.open().map(|_| desk)
+    }
+
+    /// The message in a slot; none where it is empty, or where there is no such slot.
+    pub fn message(&self, slot: u16) -> Option<Message> {
+        message_in(&self.pool, SLOT_BYTES, slot)
+    }
+}
+
+/// Receive bytes as words, site s at bit s; there are as many bytes as sites x words. After a refusal nothing is written.
+///
+/// ```
+/// # use pointer_desk::{pack, unpack, Refusal};
+/// let (mut words, mut receive) = ([0], [0; 3]);
+/// assert_eq!(pack(3, &[1, 0, 1], &mut words), Ok(()));
+/// assert_eq!(words, [5]);
+/// assert_eq!(unpack(3, &words, &mut receive), Ok(()));
+/// assert_eq!(receive, [1, 0, 1]);
+/// assert_eq!(unpack(3, &[8], &mut receive), Err(Refusal::BadTable));
+/// ```
+pub fn pack(sites: u8, receive: &[u8], words: &mut [u64]) -> Result<(), Refusal> {
+    // Safe: each pointer is a slice's, with that slice's own length, and `&mut` lets nobody else at the words.
+    let number = unsafe { desk_words_pack(sites, receive.as_ptr(), receive.len(), words.as_mut_ptr(), words.len()) };
+    unless_refused(number, || ())
+}
+
+/// Words as receive bytes. After a refusal nothing is written.
+pub fn unpack(sites: u8, words: &[u64], receive: &mut [u8]) -> Result<(), Refusal> {
+    // Safe: each pointer is a slice's, with that slice's own length, and `&mut` lets nobody else at the bytes.
+    let number = unsafe { desk_words_unpack(sites, words.as_ptr(), words.len(), receive.as_mut_ptr(), receive.len()) };
+    unless_refused(number, || ())
 }
 
 // How many counters and cells a desk has; no memory is taken for more pointers than any desk has.

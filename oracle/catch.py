@@ -4,12 +4,14 @@ import wrong_lines
 import wrong_machine
 import wrong_order
 import wrong_tables
+import wrong_words
 from cases_store import stored_cases
 from lent_tables import lent_lines
 from line_calls import line_call_lines
 from ordered_calls import ordered_lines
 from patched import load
 from random_runs import numbered_input
+from word_calls import word_lines
 
 SEED = "mutants"
 
@@ -17,17 +19,18 @@ SEED = "mutants"
 class Evidence:
     """What wrong desks are tried against; all of it comes from the true program or by hand."""
 
-    def __init__(self, inputs, lent_calls, line_calls, ordered_calls):
+    def __init__(self, inputs, lent_calls, line_calls, ordered_calls, word_calls):
         self.cases = stored_cases()
         self.inputs = [("input %d" % number,) + numbered_input(SEED, number) for number in range(inputs)]
         self.lent_lines = list(lent_lines(SEED, lent_calls))
         self.line_calls = list(line_call_lines(SEED, line_calls))
         self.ordered_calls = list(ordered_lines(SEED, ordered_calls))
+        self.word_calls = list(word_lines(SEED, word_calls))
 
 
 def all_mutants():
     return (wrong_machine.all_mutants() + wrong_tables.all_mutants() + wrong_lines.all_mutants()
-            + wrong_order.all_mutants())
+            + wrong_order.all_mutants() + wrong_words.all_mutants())
 
 
 def failure(judge):
@@ -67,6 +70,10 @@ def tries_for(mutant, evidence):
     tries = []
     if touched <= {"in_order", "in_order_tables"}:
         tries.append(("calls in order", lambda: first_lent(modules, evidence.ordered_calls)))
+        if touched:
+            return tries
+    if touched <= {"word_tables"}:
+        tries.append(("calls on words", lambda: first_lent(modules, evidence.word_calls)))
         if touched:
             return tries
     if not touched or not touched <= {"lines", "program"}:

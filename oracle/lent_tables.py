@@ -55,9 +55,9 @@ def random_message(rng, draft):
     return [kind, sender, receiver, third, pointer]
 
 
-def random_draft(rng):
+def random_draft(rng, sizes=random_sizes):
     """Good tables; hardly any are reached from an opening."""
-    sites, pointers, slot_count = random_sizes(rng)
+    sites, pointers, slot_count = sizes(rng)
     draft = Draft(sites, [rng.randrange(sites) for _ in range(pointers)], slot_count)
     draft.send = [random_count(rng) for _ in draft.send]
     density = rng.choice([0.2, 0.5, 0.8])

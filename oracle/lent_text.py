@@ -6,9 +6,11 @@ import book
 import in_order_tables
 import lines
 import tables
+import word_tables
 from desk import Answer
 from in_order_tables import OrderedLent
 from tables import Lent, slot_bytes
+from word_tables import WordLent
 
 UNTOUCHED_COUNT = 0xA5A5A5A5
 
@@ -16,6 +18,11 @@ UNTOUCHED_COUNT = 0xA5A5A5A5
 LentCall = namedtuple("LentCall", "name parts arguments")
 BookParts = namedtuple("BookParts", "sites owners book")
 TextPart = namedtuple("TextPart", "text")
+# Tables on words, and the receive bytes that mean the same; None where no bytes do.
+BothLent = namedtuple("BothLent", WordLent._fields + ("receive",))
+# What is lent to pack and to unpack, in the order of the call.
+PackParts = namedtuple("PackParts", "sites receive words")
+UnpackParts = namedtuple("UnpackParts", "sites words receive")
 
 # How each argument is written: digits of a number, decimal, or a part.
 ARGUMENT_FORMS = {
@@ -30,12 +37,20 @@ PLAIN_CALLS = {
     "delete": tables.lent_delete, "ask": tables.lent_ask,
     "ordered_open": in_order_tables.lent_open, "ordered_copy": in_order_tables.lent_make_copy,
     "ordered_receive": in_order_tables.lent_receive, "ordered_delete": in_order_tables.lent_delete,
-    "ordered_ask": in_order_tables.lent_ask}
-SHARE_CALLS = {"share": tables.lent_share, "ordered_share": in_order_tables.lent_share}
-SHEET_CALLS = {"sheet": tables.lent_sheet_into, "ordered_sheet": in_order_tables.lent_sheet_into}
+    "ordered_ask": in_order_tables.lent_ask,
+    "words_open": word_tables.lent_open, "words_copy": word_tables.lent_make_copy,
+    "words_receive": word_tables.lent_receive, "words_delete": word_tables.lent_delete,
+    "words_ask": word_tables.lent_ask, "words_count": word_tables.lent_count}
+SHARE_CALLS = {"share": tables.lent_share, "ordered_share": in_order_tables.lent_share,
+               "words_share": word_tables.lent_share}
+SHEET_CALLS = {"sheet": tables.lent_sheet_into, "ordered_sheet": in_order_tables.lent_sheet_into,
+               "words_sheet": word_tables.lent_sheet_into}
 TABLE_CALLS = ("open", "copy", "receive", "delete", "ask", "share", "sheet")
 ORDERED_CALLS = tuple("ordered_" + name for name in TABLE_CALLS)
-ARGUMENT_FORMS.update({"ordered_" + name: ARGUMENT_FORMS[name] for name in TABLE_CALLS})
+WORD_CALLS = tuple("words_" + name for name in TABLE_CALLS) + ("words_count",)
+PACK_CALLS = ("words_pack", "words_unpack")
+ARGUMENT_FORMS.update({kind + name: ARGUMENT_FORMS[name] for kind in ("ordered_", "words_") for name in TABLE_CALLS})
+ARGUMENT_FORMS.update({"words_count": ("02X",), "words_pack": (), "words_unpack": ()})
 
 
 def part_text(part, empty="-"):
@@ -48,6 +63,11 @@ def counters_text(counters, empty="-"):
     return "".join("%04X" % count for count in counters) or empty
 
 
+def words_text(words, empty="-"):
+    """64-bit words as sixteen digits each."""
+    return "".join("%016X" % word for word in words) or empty
+
+
 def read_part(text):
     return b"" if text in ("-", "null") else bytes.fromhex(text)
 
@@ -55,6 +75,11 @@ def read_part(text):
 def read_counters(text):
     data = read_part(text)
     return tuple(256 * high + low for high, low in zip(data[::2], data[1::2]))
+
+
+def read_words(text):
+    data = read_part(text)
+    return tuple(int.from_bytes(data[at:at + 8], "big") for at in range(0, len(data), 8))
 
 
 def lent_texts(lent, empty):
@@ -68,6 +93,19 @@ def ordered_texts(lent, empty):
     """The base's five and the two tables of numbers."""
     return lent_texts(lent, empty) + [counters_text(lent.to_post, empty()),
                                       counters_text(lent.to_receive, empty())]
+
+
+def both_texts(both, empty):
+    """The five of tables on words, and the bytes that mean the same."""
+    return ["%02X" % both.sites, part_text(both.owners, empty()), counters_text(both.send, empty()),
+            words_text(both.words, empty()), part_text(both.pool, empty()),
+            "none" if both.receive is None else part_text(both.receive, empty())]
+
+
+def pack_texts(parts, empty):
+    """The two parts of pack or unpack, in the order of the call."""
+    forms = {"receive": part_text, "words": words_text}
+    return ["%02X" % parts.sites] + [forms[name](getattr(parts, name), empty()) for name in parts._fields[1:]]
 
 
 def book_texts(parts, empty):
@@ -84,6 +122,10 @@ def texts_of(call):
         return line_texts
     if call.name in ORDERED_CALLS:
         return ordered_texts
+    if call.name in WORD_CALLS:
+        return both_texts
+    if call.name in PACK_CALLS:
+        return pack_texts
     return book_texts if call.name in BOOK_CALLS else lent_texts
 
 
@@ -104,6 +146,18 @@ def read_argument(form, text):
     return int(text, 10 if form == "d" else 16)
 
 
+def read_both(sites, texts):
+    owners, send, words, pool, receive = texts
+    return BothLent(sites, read_part(owners), read_counters(send), read_words(words), read_part(pool),
+                    None if receive == "none" else read_part(receive))
+
+
+def read_pack(name, sites, texts):
+    if name == "words_pack":
+        return PackParts(sites, read_part(texts[0]), read_words(texts[1]))
+    return UnpackParts(sites, read_words(texts[0]), read_part(texts[1]))
+
+
 def read_lent(name, words):
     """What is lent to a call, and the words behind it."""
     if name in LINE_CALLS:
@@ -111,6 +165,10 @@ def read_lent(name, words):
     sites = int(words[0], 16)
     if name in BOOK_CALLS:
         return BookParts(sites, *map(read_part, words[1:3])), words[3:]
+    if name in PACK_CALLS:
+        return read_pack(name, sites, words[1:3]), words[3:]
+    if name in WORD_CALLS:
+        return read_both(sites, words[1:6]), words[6:]
     owners, send, receive, pool = words[1:5]
     lent = Lent(sites, read_part(owners), read_counters(send), read_part(receive), read_part(pool))
     if name in ORDERED_CALLS:
@@ -144,20 +202,53 @@ def sheet_text(before, after):
     return "=" if before == after else "".join("%04X" % count for count in after)
 
 
-def table_answer_text(call):
-    """The answer of a call over tables and all lent memory after it."""
+def answer_and_after(call):
+    """The answer of a call over tables as text, and the tables after it."""
     if call.name in SHARE_CALLS:
         answer, after = SHARE_CALLS[call.name](call.parts, *call.arguments)
-        text = "%02X %d" % answer
-    elif call.name in SHEET_CALLS:
+        return "%02X %d" % answer, after
+    if call.name in SHEET_CALLS:
         pointer, length = call.arguments
         paper = [UNTOUCHED_COUNT] * length
         number, written, after = SHEET_CALLS[call.name](call.parts, pointer, paper)
-        text = "%02X %s" % (number, sheet_text(paper, written))
-    else:
-        answer, after = PLAIN_CALLS[call.name](call.parts, *call.arguments)
-        text = plain_answer_text(answer)
+        return "%02X %s" % (number, sheet_text(paper, written)), after
+    answer, after = PLAIN_CALLS[call.name](call.parts, *call.arguments)
+    return plain_answer_text(answer), after
+
+
+def table_answer_text(call):
+    """The answer of a call over tables and all lent memory after it."""
+    text, after = answer_and_after(call)
     return text + " " + after_text(call.parts, after)
+
+
+def byte_desk_after(both, call, answer, after):
+    """The receive bytes after the same call on the byte desk, or how the two desks differ."""
+    if both.receive is None or call.name == "words_count":
+        return both.receive, ""
+    lent = Lent(both.sites, both.owners, both.send, both.receive, both.pool)
+    given, left = answer_and_after(LentCall(call.name[len("words_"):], lent, call.arguments))
+    apart = given != answer or left._replace(receive=b"") != Lent(*after._replace(words=b""))
+    return left.receive, " DESKS DIFFER: " + given if apart else ""
+
+
+def word_answer_text(call):
+    """The answer of both desks, all lent memory after it, and the bytes after it."""
+    both = call.parts
+    answer, after = answer_and_after(call._replace(parts=WordLent(*both[:5])))
+    receive, apart = byte_desk_after(both, call, answer, after)
+    texts = [part_text(after.owners), counters_text(after.send), words_text(after.words), part_text(after.pool)]
+    texts = ["=" if old == new else text for old, new, text in zip(both[1:5], after[1:], texts)]
+    texts.append("=" if receive == both.receive else part_text(receive))
+    return " ".join([answer] + texts) + apart
+
+
+def pack_answer_text(call):
+    """The number of pack or unpack, and its two parts after it; the first always stays."""
+    form, pack = ((words_text, word_tables.lent_pack) if call.name == "words_pack"
+                  else (part_text, word_tables.lent_unpack))
+    number, after = pack(*call.parts)
+    return "%02X = %s" % (number, "=" if after == call.parts[2] else form(after))
 
 
 def book_answer_text(call):
@@ -182,6 +273,10 @@ def line_answer_text(call):
 def answer_text(call):
     if call.name in LINE_CALLS:
         return line_answer_text(call)
+    if call.name in WORD_CALLS:
+        return word_answer_text(call)
+    if call.name in PACK_CALLS:
+        return pack_answer_text(call)
     return book_answer_text(call) if call.name in BOOK_CALLS else table_answer_text(call)
 
 

@@ -167,8 +167,64 @@ def other_questions():
                     ("ordered_receive", last, (0,)), ("ordered_open", last, ())]
 
 
+def numbers_by_pair(sites, start):
+    """A number of its own for each pair: `start` at the pair (S - 2, S - 1), one more at each next pair."""
+    return {(a, b): (start + sites * (a + 2 - sites) + b + 1 - sites) % NUMBERS
+            for a in range(sites) for b in range(sites)}
+
+
+def crowd(owner, holder, other, pointer, length):
+    """Messages of every kind for two pointers, most of them between the holder and the owner, with any numbers."""
+    some = ((INC_DEC, holder, owner, other, pointer), (DEC, holder, owner, 0, pointer),
+            (COPY, owner, holder, 0, pointer), (COPY, other, holder, 0, 0), (DEC, owner, holder, 0, pointer),
+            (DEC, other, holder, 0, pointer), (COPY, owner, holder, 0, pointer))
+    return [some[place % len(some)] + (257 * place % NUMBERS,) for place in range(length)]
+
+
+def accepted_at(sites, pointers, slots):
+    """All seven calls accepted at the last sites and pointer, in a pool with one slot left and in an empty one."""
+    owner, holder, other, pointer = sites - 1, sites - 2, 0, pointers - 1
+    owners = [7 * number % sites for number in range(pointer)] + [owner]
+    tables = (numbers_by_pair(sites, 255), numbers_by_pair(sites, FULL))
+
+    def lent_with(pool, counter):
+        return ordered_of(sites, owners, {(owner, pointer): counter}, [(holder, pointer)], pool, *tables)
+    others = crowd(owner, holder, other, pointer, slots - 1)
+    crowded, quiet = lent_with(others + [NO_SLOT], 256), lent_with([NO_SLOT] * slots, 0)
+    calls = [("ordered_open", crowded, ())]
+    for lent in (crowded, quiet):
+        calls += [("ordered_copy", lent, (holder, other, pointer)), ("ordered_delete", lent, (holder, pointer)),
+                  ("ordered_ask", lent, (owner, pointer)), ("ordered_share", lent, (holder, pointer)),
+                  ("ordered_sheet", lent, (pointer, 192))]
+    for message in ((COPY, owner, other, 0, pointer), (COPY, owner, holder, 0, pointer),
+                    (COPY, holder, other, 0, pointer), (INC_DEC, holder, owner, other, pointer),
+                    (DEC, holder, owner, 0, pointer)):
+        last = message + (tables[1][message[1:3]],)
+        calls.append(("ordered_receive", lent_with(others + [last], 256), (slots - 1,)))
+    return calls
+
+
+def accepted_at_one_site(pointers, slots):
+    """The calls that one site can have accepted: a make copy there gives 4, a delete and a share 11."""
+    pointer, numbers = pointers - 1, ({(0, 0): 255}, {(0, 0): FULL})
+    kinds = [(DEC, 0, 0, 0, pointer, FULL), (INC_DEC, 0, 0, 0, pointer, FULL)]
+    lents = [ordered_of(1, [0] * pointers, {(0, pointer): 1}, (), [NO_SLOT] * (slots - 1) + [last], *numbers)
+             for last in kinds]
+    quiet = ordered_of(1, [0] * pointers, slots=[NO_SLOT] * slots)
+    return ([("ordered_receive", lent, (slots - 1,)) for lent in lents]
+            + [("ordered_ask", lent, (0, pointer)) for lent in (lents[0], quiet)]
+            + [("ordered_sheet", lent, (pointer, 192)) for lent in lents] + [("ordered_open", lents[1], ())])
+
+
+def largest_and_smallest():
+    """Each call accepted at S = 64, G = 256, 1,024 slots, all three, and G = 1; at S = 1 where it can be."""
+    sizes = ((64, 1, 8), (3, 256, 8), (3, 1, 1024), (64, 256, 1024))
+    return ([call for size in sizes for call in accepted_at(*size)]
+            + [call for size in ((1, 1), (256, 1024)) for call in accepted_at_one_site(*size)])
+
+
 def fixed_calls():
-    groups = (document_examples, turned_down, pairs_apart, replies, shapes, other_questions)
+    groups = (document_examples, turned_down, pairs_apart, replies, shapes, other_questions, largest_and_smallest)
     return [LentCall(*call) for group in groups for call in group()]
 
 

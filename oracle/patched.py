@@ -4,6 +4,7 @@ import pathlib
 import sys
 import types
 from collections import namedtuple
+from functools import lru_cache
 
 # wrong: the wrong rule in words; patches: the changes of source that make it.
 Mutant = namedtuple("Mutant", "wrong patches")
@@ -13,7 +14,7 @@ Patch = namedtuple("Patch", "module old new")
 FOLDER = pathlib.Path(__file__).resolve().parent
 # In an order in which each needs only those before it.
 MODULES = ("refusals", "desk", "tables", "book", "lines", "program", "in_order", "in_order_tables",
-           "lent_text")
+           "word_tables", "lent_text")
 
 
 def mutant(wrong, module, old, new, *more):
@@ -39,6 +40,12 @@ def patched_source(name, patches):
     return source
 
 
+@lru_cache(maxsize=64)
+def code_of(name, source):
+    """Compiled once for all wrong desks that leave this module as it is."""
+    return compile(source, name + ".py", "exec")
+
+
 def load(patches, more_modules=()):
     """Fresh copies of the modules, patched, as a map by name; the true ones stay in place."""
     names = MODULES + tuple(more_modules)
@@ -47,8 +54,7 @@ def load(patches, more_modules=()):
     try:
         for name in names:
             loaded[name] = sys.modules[name] = types.ModuleType(name)
-            code = compile(patched_source(name, patches), name + ".py", "exec")
-            exec(code, loaded[name].__dict__)
+            exec(code_of(name, patched_source(name, patches)), loaded[name].__dict__)
     finally:
         for name in names:
             sys.modules.pop(name, None)

@@ -17,6 +17,8 @@ import random_runs
 import second
 import soak
 import tables
+import word_calls
+import word_tables
 from case_parts import answers
 from case_parts import lines as whole_lines
 from desk import COPY, DEC, INC_DEC, open_desk, share_of, sheet
@@ -24,7 +26,7 @@ from lent_fixed import tables_of
 from lines import Ask, Delete, Ended, MakeCopy, Reader, Receive, Refusal
 from patched import Mutant, load
 
-REDUCED = dict(inputs=3, lent_calls=590, line_calls=3700, ordered_calls=1000)
+REDUCED = dict(inputs=3, lent_calls=590, line_calls=3700, ordered_calls=1000, word_calls=1300)
 CLAIM_SEEDS = (1, 2, 3)
 IN_ORDER_STATES = 3653
 
@@ -326,6 +328,76 @@ def test_mutants():
     yield "the true desk", not catch.is_caught(Mutant("nothing", []), evidence)
     for mutant in catch.all_mutants():
         yield mutant.wrong, catch.is_caught(mutant, evidence)
+
+
+def test_words():
+    """Document 02, Five: counts of holders, the words of the fourteen lines, an opening, pack and unpack."""
+    def counted(sites, words, pointer=0):
+        lent = word_tables.WordLent(*word_calls.words_of(sites, [0], words)[:5])
+        answer, after = word_tables.lent_count(lent, pointer)
+        return answer[:2] if after == lent and answer[2:] == (None, 0) else None
+    yield "word 7", counted(3, [7]) == (0, 3)
+    yield "word 8", counted(3, [8]) == (2, 0)
+    yield "pointer 1", counted(3, [7], 1) == (3, 0)
+    yield "two words", counted(3, [7, 7]) == (1, 0)
+    yield "word 0", counted(3, [0]) == (0, 0)
+    yield "all ones of 64", counted(64, [2 ** 64 - 1]) == (0, 64)
+    yield "1 before 2 before 3", [counted(3, words, 9) for words in ([8, 8], [8], [7])] == [(1, 0), (2, 0), (3, 0)]
+    lent, seen = word_tables.encode(open_desk(3, b"\0", 4)), {}
+    for number, call in enumerate(word_calls.fourteen_calls(), start=2):
+        _, lent = lent_text.PLAIN_CALLS[word_calls.CALL_NAMES[type(call)]](lent, *call)
+        seen[number] = lent.words[0]
+    yield "the fourteen lines", [seen[number] for number in (2, 3, 5, 6, 12)] == [1, 3, 7, 3, 1]
+    garbage = word_tables.WordLent(64, bytes((0, 5, 63)), (9,) * 192, (2 ** 64 - 1,) * 3, b"\xff" * 5)
+    yield "opening", word_tables.lent_open(garbage)[1].words == (1, 32, 2 ** 63)
+    yield "pack", word_tables.lent_pack(3, b"\1\0\0\1\1\1", (9, 9)) == (0, (5, 6))
+    yield "unpack", word_tables.lent_unpack(3, (5, 6), bytes(6)) == (0, b"\1\0\0\1\1\1")
+    yield "pack refused", [word_tables.lent_pack(3, cells, (9, 9)) for cells in (bytes(5), b"\2" + bytes(5))] == [
+        (1, (9, 9)), (2, (9, 9))]
+    yield "unpack refused", [word_tables.lent_unpack(3, words, b"\7" * 6)[0] for words in ((1,), (1, 8))] == [1, 2]
+
+
+def meant_after(line):
+    """Whether bytes and words of a line mean the same after its call; None where it has no bytes."""
+    question, answer = line.split(" > ")
+    call = lent_text.read_question(question)
+    if call.name not in lent_text.WORD_CALLS or call.parts.receive is None:
+        return None
+    _, _, words, _, receive = answer.split(" ")[-5:]
+    after = call.parts[:5] if words == "=" else call.parts._replace(words=lent_text.read_words(words))[:5]
+    given = call.parts.receive if receive == "=" else lent_text.read_part(receive)
+    meant = word_calls.meaning(word_tables.WordLent(*after))
+    return meant == given if meant is not None else call.name == "words_open" and words == receive == "="
+
+
+def test_word_calls():
+    """Calls on words come back the same from their text, and on both desks what they leave means the same."""
+    on_both, kinds = 0, set()
+    for number, line in enumerate(word_calls.word_lines("test", 2000)):
+        meant = meant_after(line)
+        yield "call %d" % number, lent_text.judge(line) is None and meant is not False
+        on_both += meant is not None
+        kinds.add((line.split(" ")[0], line.split(" > ")[1][:2] == "00"))
+    yield "on both desks", on_both > 1000
+    yield "each call accepted and refused", len(kinds) == 2 * (len(lent_text.WORD_CALLS) + len(lent_text.PACK_CALLS))
+
+
+def test_holders_of_runs():
+    """Lemma 8 with its minus 1: where no slot names a pointer, the owner's counter is the count of holders minus 1."""
+    quiet = 0
+    for seed in CLAIM_SEEDS:
+        for call in word_calls.run_calls(random_runs.rng_for("holders", seed), 250):
+            if call.name in lent_text.PACK_CALLS:
+                continue
+            lent = word_tables.WordLent(*call.parts[:5])
+            for pointer, owner in enumerate(lent.owners):
+                holders = word_tables.lent_count(lent, pointer)[0].value
+                counter = lent.send[owner * len(lent.owners) + pointer]
+                named = any(slot[0] and slot[4] == pointer for slot in tables.slots_of(lent.pool))
+                quiet += not named
+                yield "call %s" % (call.arguments,), holders == sum(call.parts.receive[pointer::len(lent.owners)])
+                yield "quiet at %s" % (call.arguments,), named or counter == holders - 1
+    yield "quiet pointers", quiet > 100
 
 
 def all_tests():

@@ -6,7 +6,7 @@ import re
 import sys
 
 os.chdir(os.path.join(os.path.dirname(os.path.abspath(__file__)), '..'))
-C = {'u8': 'uint8_t', 'u16': 'uint16_t', 'u32': 'uint32_t', 'usize': 'size_t', 'DeskAnswer': 'desk_answer', 'DeskOrderedAnswer': 'desk_ordered_answer',
+C = {'u8': 'uint8_t', 'u16': 'uint16_t', 'u32': 'uint32_t', 'u64': 'uint64_t', 'usize': 'size_t', 'DeskAnswer': 'desk_answer', 'DeskOrderedAnswer': 'desk_ordered_answer',
      'DeskShare': 'desk_share_answer', 'DeskPart': 'desk_part', 'DeskLine': 'desk_line'}
 RUST = {'DeskAnswer': 'CAnswer', 'DeskOrderedAnswer': 'COrderedAnswer', 'DeskShare': 'CShare', 'DeskPart': 'CPart', 'DeskLine': 'CLine'}
 NAMES = {'posts': 'to_post', 'takes': 'to_receive'}     # the code's words for the two tables of numbers

@@ -16,6 +16,9 @@ static uint32_t sheet[DESK_SHEET_COUNTS];
 static uint8_t numbered[DESK_ORDERED_SLOT_BYTES];
 static uint16_t to_post[4], to_receive[4];
 
+/* On words: the word of that pointer. */
+static uint64_t words[1];
+
 static void set_tables(void) {
     memset(send, 0, sizeof send);
     memset(pool, 0, sizeof pool);
@@ -23,12 +26,13 @@ static void set_tables(void) {
     memset(to_post, 0x11, sizeof to_post);
     memset(to_receive, 0x22, sizeof to_receive);
     receive[0] = receive[1] = 1;
+    words[0] = 3;
     memset(sheet, 0xA5, sizeof sheet);
 }
 
 static int tables_kept(void) {
     static const uint8_t none[5] = {0};
-    return !send[0] && !send[1] && receive[0] == 1 && receive[1] == 1 && !memcmp(pool, none, 5);
+    return !send[0] && !send[1] && receive[0] == 1 && receive[1] == 1 && words[0] == 3 && !memcmp(pool, none, 5);
 }
 
 static int numbers_kept(void) {
@@ -52,7 +56,7 @@ static void expect(const char *what, int right) {
     set_tables();
 }
 
-/* Whether an answer, of either desk, has this number and value, tells no empty slots and has no message. */
+/* Whether an answer, of any desk, has this number and value, tells no empty slots and has no message. */
 static int fields_are(unsigned n, unsigned value, unsigned empty, const uint8_t *message, unsigned number, unsigned wanted) {
     static const uint8_t none[5] = {0};
     return n == number && value == wanted && empty == 0 && !memcmp(message, none, 5);
@@ -69,6 +73,7 @@ static int is_ordered(desk_ordered_answer a, unsigned number, unsigned value) {
 #define OWNERS owners, 1
 #define SEND send, 2
 #define RECEIVE receive, 2
+#define WORDS words, 1
 #define POOL pool, 5
 #define BOOK book, 3
 #define NO NULL, 0
@@ -207,6 +212,75 @@ static void no_pool_in_order(void) {
     expect("in order, an opening without a pool", is_ordered(opened, 0, 0) && !send[0] && !receive[1] && !to_post[1] && !to_receive[3]);
 }
 
+/* On words, with every part null: as the desk of document 01. */
+static void all_parts_in_words(void) {
+    ACCEPTED(desk_words_open(1, ALL_NO), 0);
+    ACCEPTED(desk_words_open(64, ALL_NO), 0);
+    REFUSED(desk_words_open(0, ALL_NO), DESK_BAD_SHAPE);
+    REFUSED(desk_words_open(65, ALL_NO), DESK_BAD_SHAPE);
+    REFUSED(desk_words_make_copy(2, ALL_NO, 0, 1, 0), DESK_BAD_NAME);
+    REFUSED(desk_words_receive(2, ALL_NO, 0), DESK_BAD_NAME);
+    REFUSED(desk_words_delete(2, ALL_NO, 1, 0), DESK_BAD_NAME);
+    REFUSED(desk_words_ask(2, ALL_NO, 0, 0), DESK_BAD_NAME);
+    REFUSED(desk_words_count(2, ALL_NO, 0), DESK_BAD_NAME);
+    desk_share_answer a = desk_words_share(2, ALL_NO, 1, 0);
+    expect("on words, share of no pointer", a.number == DESK_BAD_NAME && a.share == 0);
+    expect("on words, sheet of no pointer", desk_words_sheet(2, ALL_NO, 0, sheet, DESK_SHEET_COUNTS) == DESK_BAD_NAME && sheet_is(0));
+    expect("on words, sheet that is null", desk_words_sheet(2, ALL_NO, 0, NO) == DESK_BAD_SHAPE);
+}
+
+/* On words, one part null among good ones. ASKED: what is expected of a call and its number. */
+#define ONE_PART_IN_WORDS(ASKED, call, ...)                                        \
+    ASKED(call(2, NO, SEND, WORDS, POOL __VA_ARGS__), DESK_BAD_SHAPE);             \
+    ASKED(call(2, OWNERS, NO, WORDS, POOL __VA_ARGS__), DESK_BAD_SHAPE);           \
+    ASKED(call(2, OWNERS, SEND, NO, POOL __VA_ARGS__), DESK_BAD_SHAPE)
+
+static void one_part_in_words(void) {
+    ONE_PART_IN_WORDS(REFUSED, desk_words_open, );
+    ONE_PART_IN_WORDS(REFUSED, desk_words_make_copy, COMMA 0, 1, 0);
+    ONE_PART_IN_WORDS(REFUSED, desk_words_receive, COMMA 0);
+    ONE_PART_IN_WORDS(REFUSED, desk_words_delete, COMMA 1, 0);
+    ONE_PART_IN_WORDS(REFUSED, desk_words_ask, COMMA 0, 0);
+    ONE_PART_IN_WORDS(REFUSED, desk_words_count, COMMA 0);
+    ONE_PART_IN_WORDS(SHARE_REFUSED, desk_words_share, COMMA 1, 0);
+    ONE_PART_IN_WORDS(SHEET_REFUSED, desk_words_sheet, COMMA 0, sheet, DESK_SHEET_COUNTS);
+}
+
+/* On words, a pool of 0 slots. */
+#define WORDS_WITHOUT_POOL 2, OWNERS, SEND, WORDS, NO
+
+static void no_pool_in_words(void) {
+    REFUSED(desk_words_make_copy(WORDS_WITHOUT_POOL, 0, 1, 0), DESK_POOL_FULL);
+    REFUSED(desk_words_receive(WORDS_WITHOUT_POOL, 0), DESK_BAD_NAME);
+    REFUSED(desk_words_delete(WORDS_WITHOUT_POOL, 1, 0), DESK_POOL_FULL);
+    ACCEPTED(desk_words_ask(WORDS_WITHOUT_POOL, 0, 0), 1);
+    ACCEPTED(desk_words_count(WORDS_WITHOUT_POOL, 0), 2);
+    desk_share_answer a = desk_words_share(WORDS_WITHOUT_POOL, 1, 0);
+    expect("on words, share without a pool is the bit", a.number == 0 && a.share == 1);
+    expect("on words, sheet without a pool", desk_words_sheet(WORDS_WITHOUT_POOL, 0, sheet, DESK_SHEET_COUNTS) == 0 && sheet_is(0));
+    send[0] = 7;
+    desk_answer opened = desk_words_open(WORDS_WITHOUT_POOL);
+    expect("on words, an opening without a pool", is(opened, 0, 0) && !send[0] && words[0] == 1);
+}
+
+/* Receive bytes and words, where one of them or both are null. */
+#define CONVERTED(call, number) expect(#call " gives " #number, call == number && tables_kept())
+
+static void packs(void) {
+    CONVERTED(desk_words_pack(1, NO, NO), DESK_ACCEPTED);
+    CONVERTED(desk_words_pack(64, NO, NO), DESK_ACCEPTED);
+    CONVERTED(desk_words_pack(0, NO, NO), DESK_BAD_SHAPE);
+    CONVERTED(desk_words_pack(65, NO, NO), DESK_BAD_SHAPE);
+    CONVERTED(desk_words_pack(2, NO, WORDS), DESK_BAD_SHAPE);
+    CONVERTED(desk_words_pack(2, RECEIVE, NO), DESK_BAD_SHAPE);
+    CONVERTED(desk_words_unpack(1, NO, NO), DESK_ACCEPTED);
+    CONVERTED(desk_words_unpack(64, NO, NO), DESK_ACCEPTED);
+    CONVERTED(desk_words_unpack(0, NO, NO), DESK_BAD_SHAPE);
+    CONVERTED(desk_words_unpack(65, NO, NO), DESK_BAD_SHAPE);
+    CONVERTED(desk_words_unpack(2, WORDS, NO), DESK_BAD_SHAPE);
+    CONVERTED(desk_words_unpack(2, NO, RECEIVE), DESK_BAD_SHAPE);
+}
+
 static int no_part(desk_part p, unsigned number) { return p.number == number && p.at == 0 && p.length == 0; }
 
 static void books(void) {
@@ -251,6 +325,10 @@ int main(void) {
     all_parts_but_numbers();
     one_part_in_order();
     no_pool_in_order();
+    all_parts_in_words();
+    one_part_in_words();
+    no_pool_in_words();
+    packs();
     books();
     lines();
     runs();

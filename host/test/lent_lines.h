@@ -50,15 +50,15 @@ static unsigned digit(char c) {
 }
 
 /* n digits, the highest first. */
-static unsigned number_at(const char *text, size_t n) {
-    unsigned v = 0;
+static uint64_t number_at(const char *text, size_t n) {
+    uint64_t v = 0;
     for (size_t i = 0; i < n; i++) v = v * 16 + digit(text[i]);
     return v;
 }
 
 static unsigned number(void) {
     const char *w = word();
-    return number_at(w, strlen(w));
+    return (unsigned)number_at(w, strlen(w));
 }
 
 /* A block of that many bytes, and some beyond that nobody may write. */
@@ -75,10 +75,10 @@ static int is_empty(const char *w) { return !strcmp(w, "-") || !strcmp(w, "null"
 static void *values(const char *w, size_t width, size_t len) {
     uint8_t *b = block(len * width);
     for (size_t i = 0; i < len; i++) {
-        unsigned v = number_at(w + i * 2 * width, 2 * width);
+        uint64_t v = number_at(w + i * 2 * width, 2 * width);
         uint16_t v16 = (uint16_t)v;
         if (width == 1) b[i] = (uint8_t)v;
-        else memcpy(b + i * 2, &v16, 2);
+        else memcpy(b + i * width, width == 2 ? (void *)&v16 : (void *)&v, width);
     }
     return b;
 }

@@ -7,14 +7,16 @@ enum { S = DESK_MAX_SITES, G = DESK_MAX_POINTERS, SLOTS = DESK_MAX_SLOTS };
 
 /* Room for one site, one pointer and one slot more than the largest desk has. */
 static uint8_t owners[G + 1], cells[DESK_CELLS(S + 1, G + 1)], pool[DESK_ORDERED_POOL_BYTES(SLOTS + 1)];
+static uint64_t words[G + 1];
 static uint16_t counters[DESK_CELLS(S + 1, G + 1)], to_post[DESK_PAIRS(S + 1)], to_receive[DESK_PAIRS(S + 1)];
 
-/* The number that an opening of this size gives, and 255 where the two desks differ. */
+/* The number that an opening of this size gives, and 255 where the three desks differ. */
 static uint8_t opening(uint8_t s, size_t g, size_t slots) {
     desk_answer a = desk_open(s, owners, g, counters, DESK_CELLS(s, g), cells, DESK_CELLS(s, g), pool, DESK_POOL_BYTES(slots));
     desk_ordered_answer o = desk_ordered_open(s, owners, g, counters, DESK_CELLS(s, g), cells, DESK_CELLS(s, g), pool,
                                               DESK_ORDERED_POOL_BYTES(slots), to_post, DESK_PAIRS(s), to_receive, DESK_PAIRS(s));
-    return a.number == o.number ? a.number : 255;
+    desk_answer w = desk_words_open(s, owners, g, counters, DESK_CELLS(s, g), words, g, pool, DESK_POOL_BYTES(slots));
+    return a.number == o.number && a.number == w.number ? a.number : 255;
 }
 
 int main(void) {

@@ -1,4 +1,4 @@
-// Every call of pointer_desk.hpp, accepted and refused, on both desks; and what its types let through.
+// Every call of pointer_desk.hpp, accepted and refused, on each desk; and what its types let through.
 #include <cstdio>
 #include <cstring>
 
@@ -31,7 +31,7 @@ BasicDesk<Kind> opened(std::size_t slots) {
     return BasicDesk<Kind>::open(3, {0_site}, slots).value();
 }
 
-// What both desks answer alike: a copy of a copy, its INC_DEC and DEC, all the way to a yes.
+// What all desks answer alike: a copy of a copy, its INC_DEC and DEC, all the way to a yes.
 template <class Kind>
 void round() {
     BasicDesk<Kind> desk = opened<Kind>(4);
@@ -100,13 +100,26 @@ void numbers() {
     expect("0, then 1", desk.receive(0_slot).accepted() && !desk.number(0_slot) && desk.receive(1_slot).accepted());
 }
 
-// A DEC behind an INC_DEC of its pair: only on the desk of document 01.
+// A DEC behind an INC_DEC of its pair: on the desks that do not number.
+template <class Kind>
 void held() {
-    Desk desk = opened<detail::Plain>(4);
+    BasicDesk<Kind> desk = opened<Kind>(4);
     expect("to 1", desk.make_copy(0_site, 1_site, 0_pointer).accepted() && desk.receive(0_slot).accepted());
     expect("to 2", desk.make_copy(1_site, 2_site, 0_pointer).accepted() && desk.receive(0_slot).accepted());
     expect("2 deletes", desk.remove(2_site, 0_pointer).accepted());
     expect("Held", desk.receive(1_slot).refused_by(Refusal::Held));
+}
+
+// Document 02, Five: only on words.
+void holders() {
+    WordDesk desk = WordDesk::open(64, {0_site, 63_site}, 2).value();
+    expect("the owner holds", desk.count_holders(0_pointer).value() == 1 && desk.count_holders(1_pointer).value() == 1);
+    expect("a copy to 63", desk.make_copy(0_site, 63_site, 0_pointer).accepted() && desk.count_holders(0_pointer).value() == 1);
+    expect("it holds too", desk.receive(0_slot).accepted() && desk.count_holders(0_pointer).value() == 2);
+    expect("it lets go", desk.remove(63_site, 0_pointer).accepted() && desk.count_holders(0_pointer).value() == 1);
+    expect("a count of no pointer", desk.count_holders(2_pointer).refused_by(Refusal::BadName));
+    WordDesk other = std::move(desk);
+    expect("a count of what is left", desk.count_holders(0_pointer).refused_by(Refusal::BadShape) && other.count_holders(1_pointer).accepted());
 }
 
 void types() {
@@ -121,7 +134,7 @@ void types() {
 }
 
 template <class Kind>
-void both() {
+void alike() {
     round<Kind>();
     refusals<Kind>();
     moves<Kind>();
@@ -130,10 +143,13 @@ void both() {
 } // namespace
 
 int main() {
-    both<detail::Plain>();
-    both<detail::InOrder>();
+    alike<detail::Plain>();
+    alike<detail::InOrder>();
+    alike<detail::InWords>();
     numbers();
-    held();
+    held<detail::Plain>();
+    held<detail::InWords>();
+    holders();
     types();
     std::printf("%u passed, %u failed\n", passed, failed);
     return failed != 0 || passed == 0;

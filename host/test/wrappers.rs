@@ -6,7 +6,8 @@ mod pointer_desk;
 use std::num::NonZeroU16;
 
 use pointer_desk::Message::{Copy, Dec, IncDec};
-use pointer_desk::{read_line, run, write_line, Accepted, Answer, Book, Desk, DeskInOrder, Lent, LentInOrder, Next, Refusal, Sheet, RUN_ROOM};
+use pointer_desk::{pack, read_line, run, unpack, write_line, Accepted, Answer, Book, Next, Refusal, Sheet, RUN_ROOM};
+use pointer_desk::{Desk, DeskInOrder, DeskInWords, Lent, LentInOrder, LentInWords};
 use pointer_desk::{MAX_POINTERS, MAX_SITES, MAX_SLOTS, ORDERED_SLOT_BYTES, SLOT_BYTES};
 
 struct Tally {
@@ -96,6 +97,31 @@ impl InOrder {
     }
 }
 
+// The same with a word a pointer in place of the receive bytes (document 02, Five).
+#[derive(Clone, PartialEq)]
+struct InWords {
+    tables: Tables,
+    words: Vec<u64>,
+}
+
+impl InWords {
+    // One pointer of owner 0, which the sites of this word hold.
+    fn new(sites: u8, word: u64, pool: &[[u8; SLOT_BYTES]]) -> InWords {
+        let tables = Tables { send: vec![0; sites.into()], ..Tables::new(sites, &[], pool) };
+        InWords { tables, words: vec![word] }
+    }
+
+    fn lend(&mut self) -> LentInWords<'_> {
+        LentInWords {
+            sites: self.tables.sites,
+            owners: &self.tables.owners,
+            send: &mut self.tables.send,
+            words: &mut self.words,
+            pool: &mut self.tables.pool,
+        }
+    }
+}
+
 // A call over tables is refused so, and every table holds what it held.
 fn refused(t: &mut Tally, name: &str, tables: &Tables, call: impl Fn(&mut Lent) -> Answer, why: Refusal) {
     let mut lent = tables.clone();
@@ -104,6 +130,12 @@ fn refused(t: &mut Tally, name: &str, tables: &Tables, call: impl Fn(&mut Lent) 
 }
 
 fn refused_in_order(t: &mut Tally, name: &str, desk: &InOrder, call: impl Fn(&mut LentInOrder) -> Answer, why: Refusal) {
+    let mut lent = desk.clone();
+    let answer = call(&mut lent.lend());
+    t.expect(name, answer == Err(why) && lent == *desk);
+}
+
+fn refused_in_words(t: &mut Tally, name: &str, desk: &InWords, call: impl Fn(&mut LentInWords) -> Answer, why: Refusal) {
     let mut lent = desk.clone();
     let answer = call(&mut lent.lend());
     t.expect(name, answer == Err(why) && lent == *desk);
@@ -248,6 +280,85 @@ fn share_and_sheet_in_order(t: &mut Tally) {
     t.expect("in order, a sheet of pointer 1", below.lend().sheet(1) == Err(Refusal::BadName));
 }
 
+// Document 02, Five: the fourteen lines on words, with the word after each of them that changes it.
+fn fourteen_in_words(t: &mut Tally) {
+    let mut lent = InWords::new(3, 9, &[[9; 5]; 4]);
+    t.expect("on words, line 1", lent.lend().open() == accepted(0) && lent.words == [1]);
+    t.expect("on words, line 2", lent.lend().make_copy(0, 1, 0) == told(4, 0, Copy { from: 0, to: 1, pointer: 0 }) && lent.words == [1]);
+    t.expect("on words, line 3", lent.lend().receive(0) == accepted(0) && lent.words == [3]);
+    t.expect("on words, line 4", lent.lend().make_copy(1, 2, 0) == told(4, 0, Copy { from: 1, to: 2, pointer: 0 }));
+    let inc_dec = IncDec { from: 2, to: 0, third: 1, pointer: 0 };
+    t.expect("on words, line 5", lent.lend().receive(0) == posted(0, inc_dec) && lent.words == [7]);
+    t.expect("on words, line 6", lent.lend().delete(2, 0) == told(3, 1, Dec { from: 2, to: 0, pointer: 0 }) && lent.words == [3]);
+    t.expect("on words, line 7", lent.lend().receive(1) == Err(Refusal::Held));
+    t.expect("on words, line 8", lent.lend().ask(0, 0) == accepted(0));
+    t.expect("on words, line 9", lent.lend().receive(0) == posted(0, Dec { from: 0, to: 1, pointer: 0 }));
+    t.expect("on words, line 10", lent.lend().receive(1) == accepted(1));
+    t.expect("on words, line 11", lent.lend().receive(0) == accepted(0));
+    t.expect("on words, line 12", lent.lend().delete(1, 0) == told(4, 0, Dec { from: 1, to: 0, pointer: 0 }) && lent.words == [1]);
+    t.expect("on words, line 13", lent.lend().receive(0) == accepted(0));
+    t.expect("on words, line 14", lent.lend().ask(0, 0) == accepted(1));
+    t.expect("on words, the tables after", lent == InWords::new(3, 1, &[[0; 5]; 4]));
+}
+
+// Document 02, Five: the refusals of the desk on words.
+fn refusals_in_words(t: &mut Tally) {
+    let good = InWords::new(3, 3, &[[0; 5], [1, 0, 2, 0, 0]]);
+    let full = InWords::new(3, 3, &[[1, 0, 2, 0, 0]]);
+    let two = InWords { words: vec![1, 1], ..good.clone() };
+    refused_in_words(t, "on words, open, two words", &two, |d| d.open(), Refusal::BadShape);
+    refused_in_words(t, "on words, no word", &InWords { words: vec![], ..good.clone() }, |d| d.ask(0, 0), Refusal::BadShape);
+    refused_in_words(t, "on words, bit S", &InWords { words: vec![8], ..good.clone() }, |d| d.ask(0, 0), Refusal::BadTable);
+    refused_in_words(t, "on words, bit 63", &InWords { words: vec![1 << 63], ..good.clone() }, |d| d.make_copy(0, 1, 0), Refusal::BadTable);
+    refused_in_words(t, "on words, copy of pointer 1", &good, |d| d.make_copy(0, 1, 1), Refusal::BadName);
+    refused_in_words(t, "on words, copy to its sender", &good, |d| d.make_copy(1, 1, 0), Refusal::SameSite);
+    refused_in_words(t, "on words, copy by site 2", &good, |d| d.make_copy(2, 1, 0), Refusal::NotHeld);
+    refused_in_words(t, "on words, copy to a full pool", &full, |d| d.make_copy(0, 1, 0), Refusal::PoolFull);
+    refused_in_words(t, "on words, receive of nothing", &good, |d| d.receive(0), Refusal::EmptySlot);
+    refused_in_words(t, "on words, delete at the owner", &good, |d| d.delete(0, 0), Refusal::IsOwner);
+    refused_in_words(t, "on words, delete by site 2", &good, |d| d.delete(2, 0), Refusal::NotHeld);
+    refused_in_words(t, "on words, ask elsewhere", &good, |d| d.ask(1, 0), Refusal::NotOwner);
+}
+
+// Document 02, Five: share and sheet, and the count of holders.
+fn counts_in_words(t: &mut Tally) {
+    let mut below = InWords::new(2, 1, &[[3, 1, 0, 0, 0]]);
+    t.expect("on words, a share of minus 1", below.lend().share(1, 0) == Ok(-1));
+    t.expect("on words, a share at the owner", below.lend().share(0, 0) == Err(Refusal::IsOwner));
+    let mut wanted: Sheet = [[0; 64]; 3];
+    wanted[2][0] = 1;
+    t.expect("on words, a sheet", below.lend().sheet(0) == Ok(wanted));
+    t.expect("on words, a sheet of pointer 1", below.lend().sheet(1) == Err(Refusal::BadName));
+    let count = |sites, word, pointer| {
+        let mut lent = InWords::new(sites, word, &[]);
+        let counted = lent.lend().count_holders(pointer);
+        (counted, lent == InWords::new(sites, word, &[]))
+    };
+    t.expect("a count of 7", count(3, 7, 0) == (Ok(3), true));
+    t.expect("a count of 0", count(3, 0, 0) == (Ok(0), true));
+    t.expect("a count of 64 sites", count(64, u64::MAX, 0) == (Ok(64), true));
+    t.expect("a count with bit S", count(3, 8, 0) == (Err(Refusal::BadTable), true));
+    t.expect("a count of pointer 1", count(3, 7, 1) == (Err(Refusal::BadName), true));
+    t.expect("a count without sites", count(0, 0, 0) == (Err(Refusal::BadShape), true));
+}
+
+// Document 02, Five: between receive bytes and words, two pointers; after a refusal nothing is written.
+fn packing(t: &mut Tally) {
+    let (bytes, packed) = ([1, 0, 0, 1, 1, 1], [5, 6]);
+    let (mut words, mut cells) = ([9; 2], [9; 6]);
+    t.expect("a byte of 2", pack(3, &[1, 0, 0, 2, 1, 1], &mut words) == Err(Refusal::BadTable) && words == [9, 9]);
+    t.expect("a byte too few", pack(3, &bytes[..5], &mut words) == Err(Refusal::BadShape) && words == [9, 9]);
+    t.expect("65 sites", pack(65, &[0; 130], &mut words) == Err(Refusal::BadShape) && words == [9, 9]);
+    t.expect("257 words", pack(1, &[0; 257], &mut [9; 257]) == Err(Refusal::BadShape));
+    t.expect("packed", pack(3, &bytes, &mut words) == Ok(()) && words == packed);
+    t.expect("bit S", unpack(3, &[5, 8], &mut cells) == Err(Refusal::BadTable) && cells == [9; 6]);
+    t.expect("a word too many", unpack(3, &[5, 6, 0], &mut cells) == Err(Refusal::BadShape) && cells == [9; 6]);
+    t.expect("unpacked", unpack(3, &packed, &mut cells) == Ok(()) && cells == bytes);
+    let mut all = [9; 64];
+    t.expect("64 sites, unpacked", unpack(64, &[u64::MAX], &mut all) == Ok(()) && all == [1; 64]);
+    t.expect("64 sites, packed", pack(64, &all, &mut words[..1]) == Ok(()) && words == [u64::MAX, 6]);
+}
+
 // Document 01, The address book.
 fn books(t: &mut Tally) {
     let book = Book { sites: 2, owners: &[0, 1], entries: b"\x02AB\x01C" };
@@ -279,6 +390,11 @@ fn empty_slices(t: &mut Tally) {
     refused_in_order(t, "in order, an empty desk, receive", &numbered, |d| d.receive(0), Refusal::BadName);
     let none_at_all = InOrder { to_post: vec![], to_receive: vec![], tables: none };
     refused_in_order(t, "in order, no numbers", &none_at_all, |d| d.open(), Refusal::BadShape);
+    let mut worded = InWords { words: vec![], tables: Tables { sites: 2, owners: vec![], send: vec![], receive: vec![], pool: vec![] } };
+    refused_in_words(t, "on words, an empty desk, copy", &worded, |d| d.make_copy(0, 1, 0), Refusal::BadName);
+    t.expect("on words, an empty desk opens", worded.lend().open() == accepted(0));
+    t.expect("on words, an empty desk, count", worded.lend().count_holders(0) == Err(Refusal::BadName));
+    t.expect("nothing is packed and unpacked", pack(1, &[], &mut []) == Ok(()) && unpack(64, &[], &mut []) == Ok(()));
     let book = Book { sites: 1, owners: &[], entries: &[] };
     t.expect("an empty book, address", book.address(0) == Err(Refusal::BadName));
     t.expect("an empty book, check", book.check() == accepted(0));
@@ -365,6 +481,23 @@ fn owning_in_order(t: &mut Tally) {
     t.expect("owning in order, ask", desk.ask(0, 0) == lent.ask(0, 0) && desk.ask(0, 0) == accepted(0));
 }
 
+// The same on words, where holders are counted too.
+fn owning_in_words(t: &mut Tally) {
+    t.expect("owning on words, the largest", DeskInWords::new(64, &[63; MAX_POINTERS], MAX_SLOTS as u16).is_ok());
+    t.expect("owning on words, 65 sites", DeskInWords::new(65, &[0], 1) == Err(Refusal::BadShape));
+    t.expect("owning on words, 257 pointers", DeskInWords::new(2, &[0; 257], 1) == Err(Refusal::BadShape));
+    let mut tables = InWords::new(3, 9, &[[9; SLOT_BYTES]; 2]);
+    let (mut desk, mut lent) = (DeskInWords::new(3, &[0], 2).expect("it opens"), tables.lend());
+    t.expect("owning on words, opened", desk.open() == lent.open());
+    t.expect("owning on words, a copy", desk.make_copy(0, 1, 0) == lent.make_copy(0, 1, 0));
+    t.expect("owning on words, in its slot", desk.message(0) == Some(Copy { from: 0, to: 1, pointer: 0 }) && desk.message(1).is_none());
+    t.expect("owning on words, received", desk.receive(0) == lent.receive(0) && desk.count_holders(0) == Ok(2));
+    t.expect("owning on words, a delete", desk.delete(1, 0) == lent.delete(1, 0) && desk.count_holders(0) == Ok(1));
+    t.expect("owning on words, a share", desk.share(1, 0) == lent.share(1, 0));
+    t.expect("owning on words, a sheet", desk.sheet(0) == lent.sheet(0));
+    t.expect("owning on words, ask", desk.ask(0, 0) == lent.ask(0, 0) && desk.ask(0, 0) == accepted(0));
+}
+
 // A refusal in words, as any error.
 fn words(t: &mut Tally) {
     let error: Box<dyn std::error::Error> = Refusal::PoolFull.into();
@@ -382,12 +515,17 @@ fn main() {
     numbers(&mut t);
     refusals_in_order(&mut t);
     share_and_sheet_in_order(&mut t);
+    fourteen_in_words(&mut t);
+    refusals_in_words(&mut t);
+    counts_in_words(&mut t);
+    packing(&mut t);
     books(&mut t);
     empty_slices(&mut t);
     lines(&mut t);
     runs(&mut t);
     owning(&mut t);
     owning_in_order(&mut t);
+    owning_in_words(&mut t);
     words(&mut t);
     let listed: Vec<u8> = Refusal::LISTED.iter().map(|r| r.number()).collect();
     t.expect("the numbers are 1 to 21", listed == (1..=21).collect::<Vec<u8>>());

@@ -8,6 +8,7 @@ pub mod PartLaws
 pub mod FlatLaws
 pub mod InWords
 pub mod FrontLaws
+pub mod TablesLaws
 pub mod ReadyLaws
 pub mod RowLaws
 pub mod Exactly
@@ -37,7 +38,10 @@ pub mod Demand3
 pub mod ShareLaws
 pub mod Shares
 pub mod Lemma4
+pub mod Lemma8
 pub mod SheetSums
+pub mod SameAnswers
+pub mod LayoutsAlike
 pub mod DigitLaws
 pub mod CallLaws
 pub mod LineLaws

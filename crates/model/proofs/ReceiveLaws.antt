@@ -1,7 +1,7 @@
--- Receive: what a slot that can be received holds, over any lawful layout; and what an accepted receive leaves on a desk with a byte for each receive cell, whatever its pool.
+-- Receive: what a slot that can be received holds, over any lawful layout; and what an accepted receive leaves, whatever the receive table and the pool; and with a byte for each receive cell.
 use Prim.Native.Nat.{ℕ, zero, suc, _<_}
 use mathlib.Core.Path.{_≡_, refl, sym, ap, _∙_}
-use mathlib.Core.Bool.{false}
+use mathlib.Core.Bool.{true, false}
 use mathlib.Core.List.{List}
 use lib.Dec.{ltb}
 use lib.ListN.{length, getD, set}
@@ -16,12 +16,12 @@ use Rattle.model.specs.Layout.{Layout}
 use Rattle.model.specs.Laws.{Inside, Laws}
 use Rattle.model.specs.Calls.{lentRefusal, front, counterThere, receiveNumber, received, receive}
 use Rattle.model.specs.Tables.{Lent, lent, place}
-use Rattle.model.specs.Parts.{Pool, deskOf, LawfulPool}
+use Rattle.model.specs.Parts.{ReceiveTable, Pool, deskOf, LawfulPool}
 use Rattle.model.specs.Flat.{byteCells}
 use Rattle.model.proofs.TestLaws.{when-not, or-else-none, or-else-assoc}
 use Rattle.model.proofs.ReplyLaws.{inside-there}
 use Rattle.model.proofs.FrontLaws.{front-passed}
-use Rattle.model.proofs.ReadyLaws.{Ready, ready}
+use Rattle.model.proofs.ReadyLaws.{Known, known, Ready, byte-stands}
 
 -- ---- what is decided: its number, and where that is 0 the rest
 number-decided : (n : ℕ) (m : Posted) (owner cell counter : ℕ) → effectUnless n m owner cell counter .number ≡ n
@@ -71,45 +71,71 @@ module _ {D : Type 0} (L : Layout D) (d : D) (slot : ℕ) where
         inside = laws .inside d (f .0) slot l;
       }
 
--- ---- with a byte for each receive cell
-module _ {Q : Type 0} (P : Pool Q) (d : Lent (List ℕ) Q) (slot : ℕ) where
-  abbrev desk : Layout (Lent (List ℕ) Q)
-  desk = deskOf byteCells P
+-- ---- of the code's message, receiver and pointer, whatever the receive table
+module _ {R Q : Type 0} (T : ReceiveTable R) (P : Pool Q) (d : Lent R Q) (slot : ℕ) where
+  abbrev desk : Layout (Lent R Q)
+  desk = deskOf T P
 
-  -- the receiver's and the pointer's cell, of the code's message, receiver and pointer
-  pub ready-message : LawfulPool P → Full desk d slot → {m : Posted} {b p : ℕ} → m ≡ P .message (d .pool) slot → b ≡ receiver m → p ≡ pointerOf m → Ready P d b p
-  ready-message O f {m} {b} {p} em eb ep =
+  -- the receiver and the pointer name a counter and a cell
+  pub known-message : LawfulPool P → Full desk d slot → {m : Posted} {b p : ℕ} {In : Type 0} → (T .fits (d .S) (length (d .owners)) (d .receive) ≡ true → b < d .S → p < length (d .owners) → In)
+      → m ≡ P .message (d .pool) slot → b ≡ receiver m → p ≡ pointerOf m → Known T P In d b p
+  known-message O f {m} {b} {p} stands em eb ep =
       let n = inside-there (d .S) (length (d .owners)) (P .message (d .pool) slot) (f .used) (f .inside) in
-      ready P O d b p (f .good) (rw (eb, em) (n .0)) (rw (ep, em) (n .1))
+      known T P O d b p stands (f .good) (rw (eb, em) (n .0)) (rw (ep, em) (n .1))
 
-  -- the desk, of the code's message, receiver, pointer and place
+  -- the desk, of the code's place too
   module _ {m : Posted} {b p at : ℕ} (em : m ≡ P .message (d .pool) slot) (eb : b ≡ receiver m) (ep : p ≡ pointerOf m) (ea : at ≡ place (length (d .owners)) b p) where
-    there : at ≡ place (length (d .owners)) (receiver (P .message (d .pool) slot)) (pointerOf (P .message (d .pool) slot))
-    there = ea ∙ (λ w. place (length (d .owners)) ((eb ∙ ap receiver em) w) ((ep ∙ ap pointerOf em) w))
+    site-there : b ≡ receiver (P .message (d .pool) slot)
+    site-there = eb ∙ ap receiver em
 
-    -- the number of what is decided
-    pub own-as : {h : ℕ} {e : Effect} → h ≡ P .early (d .S) (d .pool) slot
-        → e ≡ decided m (getD (d .owners) p 0) (getD (d .receive) at 0) (getD (d .send) at 0) h → e .number ≡ ownNumber desk d slot
-    own-as {h} eh ee =
-        decided-number m (getD (d .owners) p 0) (getD (d .receive) at 0) (getD (d .send) at 0) h ee
+    pointer-there : p ≡ pointerOf (P .message (d .pool) slot)
+    pointer-there = ep ∙ ap pointerOf em
+
+    there : at ≡ place (length (d .owners)) (receiver (P .message (d .pool) slot)) (pointerOf (P .message (d .pool) slot))
+    there = ea ∙ (λ w. place (length (d .owners)) (site-there w) (pointer-there w))
+
+    -- the number of what is decided, which is the same for every cell
+    pub own-by : (cell : ℕ) {h : ℕ} {e : Effect} → h ≡ P .early (d .S) (d .pool) slot → e ≡ decided m (getD (d .owners) p 0) cell (getD (d .send) at 0) h → e .number ≡ ownNumber desk d slot
+    own-by cell {h} eh ee =
+        decided-number m (getD (d .owners) p 0) cell (getD (d .send) at 0) h ee
         ∙ (λ w. eh w orElse receiveRefusal (em w) (getD (d .send) (there w) 0))
 
-    -- what an accepted receive leaves
-    pub received-as : (h : ℕ) {e : Effect} {r : Answer} {q : Q} → e ≡ decided m (getD (d .owners) p 0) (getD (d .receive) at 0) (getD (d .send) at 0) h → e .number ≡ 0
-        → r ≡ accepted slot (e .posted) → q ≡ P .post (d .S) (P .handled (d .S) (d .pool) slot) slot (e .posted)
-        → record { answer = r; desk = lent (d .S) (d .owners) (set (d .send) at (e .counter)) (set (d .receive) at (e .cell)) q } ≡ received desk d slot
+    -- what an accepted receive leaves, of the code's cell and receive table
+    pub received-by : (h : ℕ) {cell : ℕ} {e : Effect} {r : Answer} {later : R} {q : Q} → cell ≡ T .cellIn (length (d .owners)) (d .receive) b p
+        → e ≡ decided m (getD (d .owners) p 0) cell (getD (d .send) at 0) h → e .number ≡ 0
+        → r ≡ accepted slot (e .posted) → later ≡ T .setIn (length (d .owners)) (d .receive) b p (e .cell) → q ≡ P .post (d .S) (P .handled (d .S) (d .pool) slot) slot (e .posted)
+        → record { answer = r; desk = lent (d .S) (d .owners) (set (d .send) at (e .counter)) later q } ≡ received desk d slot
     unfolding received
-    received-as h {e} {r} {q} ee z er eq =
-        (λ w. record { answer = er w; desk = lent (d .S) (d .owners) (set (d .send) at (e .counter)) (set (d .receive) at (e .cell)) (eq w) })
-        ∙ ap (λ (x : Effect). left at x) (decided-rest m (getD (d .owners) p 0) (getD (d .receive) at 0) (getD (d .send) at 0) h ee z)
-        ∙ (λ w. left (there w) (effect (em w) (getD (d .owners) ((ep ∙ ap pointerOf em) w) 0) (getD (d .receive) (there w) 0) (getD (d .send) (there w) 0)))
+    received-by h {cell} {e} {r} {later} {q} ec ee z er el eq =
+        (λ w. record { answer = er w; desk = lent (d .S) (d .owners) (set (d .send) at (e .counter)) (el w) (eq w) })
+        ∙ ap (λ (x : Effect). left at b p x) (decided-rest m (getD (d .owners) p 0) cell (getD (d .send) at 0) h ee z)
+        ∙ (λ w. left (there w) (site-there w) (pointer-there w) (effect (em w) (getD (d .owners) (pointer-there w) 0) (cell-there w) (getD (d .send) (there w) 0)))
       where
-        left : ℕ → Effect → Outcome (Lent (List ℕ) Q)
-        left i x = record {
+        left : ℕ → ℕ → ℕ → Effect → Outcome (Lent R Q)
+        left i b p x = record {
           answer = accepted slot (x .posted);
           desk =
-              lent (d .S) (d .owners) (set (d .send) i (x .counter)) (set (d .receive) i (x .cell)) (P .post (d .S) (P .handled (d .S) (d .pool) slot) slot (x .posted));
+              lent (d .S) (d .owners) (set (d .send) i (x .counter)) (T .setIn (length (d .owners)) (d .receive) b p (x .cell)) (P .post (d .S) (P .handled (d .S) (d .pool) slot) slot (x .posted));
         }
 
         effect : Posted → ℕ → ℕ → ℕ → Effect
         effect m owner cell counter = record { number = 0; counter = counterAfter m counter; cell = cellAfter m cell; posted = reply m cell owner }
+
+        cell-there : cell ≡ T .cellIn (length (d .owners)) (d .receive) (receiver (P .message (d .pool) slot)) (pointerOf (P .message (d .pool) slot))
+        cell-there = ec ∙ (λ w. T .cellIn (length (d .owners)) (d .receive) (site-there w) (pointer-there w))
+
+-- ---- with a byte for each receive cell, at the counter's place
+module _ {Q : Type 0} (P : Pool Q) (d : Lent (List ℕ) Q) (slot : ℕ) where
+  pub ready-message : LawfulPool P → Full (deskOf byteCells P) d slot → {m : Posted} {b p : ℕ} → m ≡ P .message (d .pool) slot → b ≡ receiver m → p ≡ pointerOf m → Ready P d b p
+  ready-message O f {m} {b} {p} em eb ep = known-message byteCells P d slot O f (byte-stands P d b p) em eb ep
+
+  module _ {m : Posted} {b p at : ℕ} (em : m ≡ P .message (d .pool) slot) (eb : b ≡ receiver m) (ep : p ≡ pointerOf m) (ea : at ≡ place (length (d .owners)) b p) where
+    pub own-as : {h : ℕ} {e : Effect} → h ≡ P .early (d .S) (d .pool) slot
+        → e ≡ decided m (getD (d .owners) p 0) (getD (d .receive) at 0) (getD (d .send) at 0) h → e .number ≡ ownNumber (deskOf byteCells P) d slot
+    own-as eh ee = own-by byteCells P d slot em eb ep ea (getD (d .receive) at 0) eh ee
+
+    pub received-as : (h : ℕ) {e : Effect} {r : Answer} {q : Q} → e ≡ decided m (getD (d .owners) p 0) (getD (d .receive) at 0) (getD (d .send) at 0) h → e .number ≡ 0
+        → r ≡ accepted slot (e .posted) → q ≡ P .post (d .S) (P .handled (d .S) (d .pool) slot) slot (e .posted)
+        → record { answer = r; desk = lent (d .S) (d .owners) (set (d .send) at (e .counter)) (set (d .receive) at (e .cell)) q } ≡ received (deskOf byteCells P) d slot
+    received-as h {e} ee z er eq =
+        received-by byteCells P d slot em eb ep ea h (ap (λ (i : ℕ). getD (d .receive) i 0) ea) ee z er (ap (λ (i : ℕ). set (d .receive) i (e .cell)) ea) eq

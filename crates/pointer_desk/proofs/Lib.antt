@@ -7,3 +7,4 @@ pub mod Handed
 pub mod LineForms
 pub mod NoTwoOutcomes
 pub mod NoTwoInOrder
+pub mod NoTwoInWords

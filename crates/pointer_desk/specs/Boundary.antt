@@ -62,6 +62,10 @@ pub record Sheet : Type 0 where
   pub number : ℕ
   pub counts : List ℕ
 
+-- an outcome of which C is given the number alone, and the lent list as the call leaves it
+abbrev pub numbered : Outcome (List ℕ) → Sheet
+numbered outcome = record { number = outcome .answer .number; counts = outcome .desk }
+
 -- another length than 192 gives 1, and nothing is written
 unfoldable pub sheetGiven : {D : Type 0} → Layout D → D → ℕ → List ℕ → Sheet
 sheetGiven L d p counts =

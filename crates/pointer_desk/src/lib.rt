@@ -6,4 +6,7 @@ mod line;
 mod machine;
 mod ordered_calls;
 mod ordered_counts;
+mod packing;
 mod program;
+mod word_calls;
+mod word_counts;

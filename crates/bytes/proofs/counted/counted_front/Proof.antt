@@ -6,9 +6,9 @@ use borrow.Author.Tests.{not-true, not-false, ne-eqb}
 use Rattle.model.specs.Refusals.{BadTable, _when_}
 use Rattle.model.specs.Calls.{lentRefusal, front}
 use Rattle.model.specs.Tables.{Desk, lent}
-use Rattle.model.specs.Flat.{flat}
+use Rattle.model.specs.Flat.{byteCells, heldSlots, flat}
 use Rattle.model.proofs.TestLaws.{number-first}
-use Rattle.bytes.proofs.FrontLaws.{tables-refused, slots-decide, few-of-each}
+use Rattle.model.proofs.TablesLaws.{tables-refused, slots-decide, few-of-each}
 use Rattle.bytes.proofs.counted.counted_front.Statement.{statement}
 use Rattle.bytes.proofs.counted.counted_front.Tie as tie
 
@@ -20,7 +20,7 @@ given c = let a = c .before .before .before .before .before .args in lent (a .s)
 by-slots : (c : tie.After-slots-tested) → lentRefusal flat (given (c .before .before)) ≡ BadTable when not (c .slots-tested .result .good)
 by-slots c =
     let e = c .before in
-    slots-decide (given (e .before)) (e .before .tables-refusal .ensures) (e .if1 .left) (c .slots-tested .ensures .0)
+    slots-decide byteCells heldSlots (given (e .before)) (e .before .tables-refusal .ensures) (e .if1 .left) (c .slots-tested .ensures .0)
 
 passed : (c : tie.Else2) → c .before .before .slots-tested .result .good ≡ true
 passed c = not-false _ (c .if2 .left)
@@ -32,10 +32,10 @@ returns : tie.Need-returns
 unfolding front
 returns c =
     let t = c .before .tables-refusal in
-    (number-first (t .result) _ _ (c .if1 .taken) (tables-refused (given (c .before)) (t .ensures) (c .if1 .taken)), rw (ne-eqb (t .result) 0 (c .if1 .taken)))
+    (number-first (t .result) _ _ (c .if1 .taken) (tables-refused byteCells heldSlots (given (c .before)) (t .ensures) (c .if1 .taken)), rw (ne-eqb (t .result) 0 (c .if1 .taken)))
 
 slots-tested-requires : tie.Need-slots-tested-requires
-slots-tested-requires c κs = few-of-each (given (c .before)) (c .before .tables-refusal .ensures) (c .if1 .left)
+slots-tested-requires c κs = few-of-each byteCells heldSlots (given (c .before)) (c .before .tables-refusal .ensures) (c .if1 .left)
 
 returns-2 : tie.Need-returns-2
 unfolding front

@@ -1,7 +1,8 @@
 -- The tables first, then the slots.
 use borrow.Author.Needs.{needs}
 use Rattle.model.specs.Tables.{Desk, lent}
-use Rattle.bytes.proofs.FrontLaws.{tables-refused, slots-decide, few-of-each}
+use Rattle.model.specs.Flat.{byteCells, heldSlots}
+use Rattle.model.proofs.TablesLaws.{tables-refused, slots-decide, few-of-each}
 use Rattle.bytes.proofs.lent.lent_refusal.Statement.{statement}
 use Rattle.bytes.proofs.lent.lent_refusal.Tie as tie
 
@@ -13,20 +14,20 @@ tables-refusal-requires : tie.Need-tables-refusal-requires
 tables-refusal-requires c κs = search needs
 
 returns : tie.Need-returns
-returns c = tables-refused (given (c .before)) (c .before .tables-refusal .ensures) (c .if1 .taken)
+returns c = tables-refused byteCells heldSlots (given (c .before)) (c .before .tables-refusal .ensures) (c .if1 .taken)
 
 all-slots-good-requires : tie.Need-all-slots-good-requires
-all-slots-good-requires c κs = few-of-each (given (c .before)) (c .before .tables-refusal .ensures) (c .if1 .left)
+all-slots-good-requires c κs = few-of-each byteCells heldSlots (given (c .before)) (c .before .tables-refusal .ensures) (c .if1 .left)
 
 returns-2 : tie.Need-returns-2
 returns-2 c =
     let e = c .before .before in
-    rw (slots-decide (given (e .before)) (e .before .tables-refusal .ensures) (e .if1 .left) (c .before .all-slots-good .ensures), c .if2 .taken)
+    rw (slots-decide byteCells heldSlots (given (e .before)) (e .before .tables-refusal .ensures) (e .if1 .left) (c .before .all-slots-good .ensures), c .if2 .taken)
 
 returns-3 : tie.Need-returns-3
 returns-3 c =
     let e = c .before .before in
-    rw (slots-decide (given (e .before)) (e .before .tables-refusal .ensures) (e .if1 .left) (c .before .all-slots-good .ensures), c .if2 .left)
+    rw (slots-decide byteCells heldSlots (given (e .before)) (e .before .tables-refusal .ensures) (e .if1 .left) (c .before .all-slots-good .ensures), c .if2 .left)
 
 pub lent-refusal-spec : {M : Type 1} → statement M
 lent-refusal-spec = tie.close (tie.spec tables-refusal-requires returns all-slots-good-requires returns-2 returns-3)

@@ -1,0 +1,2 @@
+pub mod WordCells
+pub mod InWords

@@ -1,0 +1,3 @@
+-- What the proofs of the functions cite, and what is true of what they answer.
+pub mod MessageLaws
+pub mod NoTwoOutcomes
