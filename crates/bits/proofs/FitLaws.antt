@@ -8,17 +8,17 @@ use lib.ListN.{length}
 use borrow.Author.Tests.{eqb-true}
 use Rattle.model.specs.declared.Answer.{Answer}
 use Rattle.model.specs.declared.Posted.TheVariants.{Nothing}
-use Rattle.model.specs.Refusals.{BadShape, BadTable, ◌when◌, ◌orElse◌}
+use Rattle.model.specs.Refusals.{BadShape, BadTable, ◌when◌, ◌or_else◌}
 use Rattle.model.specs.Answers.{accepted, refused, Outcome, unless}
-use Rattle.model.specs.Tables.{sizesGood}
+use Rattle.model.specs.Tables.{sizes_good}
 use Rattle.model.specs.InWords.{Sized}
 use Rattle.model.proofs.TestLaws.{and_both}
 use Rattle.model.proofs.ShapeLaws.{sized}
-use Rattle.word_cells.specs.WordCells.{tablesFit}
+use Rattle.word_cells.specs.WordCells.{tables_fit}
 
-pub fit-sizes : (sites : ℕ) (cells table : List ℕ) → tablesFit sites cells table ≡ true → Sized sites (length table) × (length cells ≡ sites * length table)
-fit-sizes sites cells table e =
-    let q = and_both (sizesGood sites (length table)) (eqb (length cells) (sites * length table)) e in
+pub fit_sizes : (sites : ℕ) (cells table : List ℕ) → tables_fit sites cells table ≡ true → Sized sites (length table) × (length cells ≡ sites * length table)
+fit_sizes sites cells table e =
+    let q = and_both (sizes_good sites (length table)) (eqb (length cells) (sites * length table)) e in
     (sized sites (length table) q.0, eqb-true (length cells) (sites * length table) q.1)
 
 -- at each place where the code returns: 1, then 2, then what is written
@@ -29,8 +29,8 @@ module _ (fit good : Bool) (before wanted : List ℕ) where
   pub fit_refused : {r : Answer} → fit ≡ false → r ≡ refused 1 → record { answer = r; desk = before } ≡ outcome
   fit_refused e q = rw (e, q)
 
-  pub table-refused : {r : Answer} → fit ≡ true → good ≡ false → r ≡ refused 2 → record { answer = r; desk = before } ≡ outcome
-  table-refused e f q = rw (e, f, q)
+  pub table_refused : {r : Answer} → fit ≡ true → good ≡ false → r ≡ refused 2 → record { answer = r; desk = before } ≡ outcome
+  table_refused e f q = rw (e, f, q)
 
   pub written_as : {r : Answer} {later : List ℕ} → fit ≡ true → good ≡ true → later ≡ wanted → r ≡ accepted 0 Nothing → record { answer = r; desk = later } ≡ outcome
   written_as e f w q = rw (e, f, w, q)

@@ -1,7 +1,7 @@
 // The bits of a word (Document 02, Five).
 ghost use Rattle.std.specs.Prelude.{◌≡◌, ◌*◌, ◌^◌, ◌≤◌, ◌<◌};
-ghost use Rattle.std.specs.Int.Count.{ones as onesOf};
-ghost use Rattle.word_cells.specs.WordCells.{bit, withBit};
+ghost use Rattle.std.specs.Int.Count.{ones as ones_of};
+ghost use Rattle.word_cells.specs.WordCells.{bit, with_bit};
 
 // Bit s of a word.
 pub fn bit_of(word: u64, site: u8) -> u8
@@ -22,7 +22,7 @@ pub(crate) fn at_bit(n: u8, site: u8) -> u64
 // A word with n at bit s: what stands there is taken off, and n put there.
 pub fn with_bit(word: u64, site: u8, n: u8) -> u64
     requires { (site < 64) × (n ≤ 1) }
-    ensures { result ≡ withBit word site n }
+    ensures { result ≡ with_bit word site n }
 {
     let there = bit_of(word, site);
     word - at_bit(there, site) + at_bit(n, site)
@@ -30,7 +30,7 @@ pub fn with_bit(word: u64, site: u8, n: u8) -> u64
 
 // How many bits of a word are ones.
 pub fn ones(word: u64) -> u16
-    ensures { result ≡ onesOf word }
+    ensures { result ≡ ones_of word }
 {
     u64::count_ones(word) as u16
 }

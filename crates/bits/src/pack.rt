@@ -1,7 +1,7 @@
 // From the byte cells of document 01 to words (Document 02, Five).
 ghost use Rattle.std.specs.Prelude.{◌≡◌, true, ◌*◌, ◌<◌, ◌≤◌, length};
 ghost use Rattle.model.specs.Tables.{all_below};
-ghost use Rattle.word_cells.specs.WordCells.{packedWord, packed, pack as packOf};
+ghost use Rattle.word_cells.specs.WordCells.{packed_word, packed, pack as pack_of};
 
 use crate::bit::at_bit;
 use crate::fit::tables_fit;
@@ -12,7 +12,7 @@ use scan::bytes::all_bits;
 // The word of a pointer: the cell of each site at its bit.
 fn packed_word(sites: u8, g: usize, cells: &[u8], p: usize) -> u64
     requires { (sites ≤ 64) × (g ≤ 256) × (p < g) × (length cells.now ≡ sites * g) × (all_below 2 cells.now ≡ true) }
-    ensures { result ≡ packedWord sites g cells.now p }
+    ensures { result ≡ packed_word sites g cells.now p }
 {
     let mut word: u64 = 0;
     let mut at = p;
@@ -40,7 +40,7 @@ fn write_words(sites: u8, cells: &[u8], words: &mut [u64])
 
 // Byte cells as words: 1, 2; after a refusal nothing is written.
 pub fn pack(sites: u8, cells: &[u8], words: &mut [u64]) -> Answer
-    ensures { record { answer = result; desk = words.new } ≡ packOf sites cells.now words.old }
+    ensures { record { answer = result; desk = words.new } ≡ pack_of sites cells.now words.old }
 {
     if !tables_fit(sites, cells.len(), words.len()) {
         return refused(1);

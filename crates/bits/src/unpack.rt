@@ -1,7 +1,7 @@
 // From words to the byte cells of document 01 (Document 02, Five).
 ghost use Rattle.std.specs.Prelude.{◌≡◌, true, ◌*◌, ◌^◌, ◌≤◌, length};
 ghost use Rattle.model.specs.Tables.{all_below};
-ghost use Rattle.word_cells.specs.WordCells.{unpacked, unpack as unpackOf};
+ghost use Rattle.word_cells.specs.WordCells.{unpacked, unpack as unpack_of};
 
 use crate::bit::bit_of;
 use crate::fit::tables_fit;
@@ -31,7 +31,7 @@ fn write_cells(sites: u8, words: &[u64], cells: &mut [u8])
 
 // Words as byte cells: 1, 2; after a refusal nothing is written.
 pub fn unpack(sites: u8, words: &[u64], cells: &mut [u8]) -> Answer
-    ensures { record { answer = result; desk = cells.new } ≡ unpackOf sites words.now cells.old }
+    ensures { record { answer = result; desk = cells.new } ≡ unpack_of sites words.now cells.old }
 {
     if !tables_fit(sites, cells.len(), words.len()) {
         return refused(1);

@@ -6,31 +6,31 @@ use native.Mathlib.Omega.{arith}
 use lib.ListN.{length}
 use borrow.Author.Tests.{ne_eqb}
 use Rattle.book.specs.Part.{Part, within}
-use Rattle.book.specs.Book.{entry_at, lengthByte, address_of, addressNumber, addressPart}
-use Rattle.book.proofs.EntryLaws.{entry-long, address-long}
-use Rattle.book.proofs.RefusalLaws.{book-passes, address-passes}
+use Rattle.book.specs.Book.{entry_at, length_byte, address_of, address_number, address_part}
+use Rattle.book.proofs.EntryLaws.{entry_long, address_long}
+use Rattle.book.proofs.RefusalLaws.{book_passes, address_passes}
 
 module _ (s : ℕ) (owners : List ℕ) (book : Part) (p : ℕ) where
   -- where the question passes: the address, at its place in the lent book
-  pub handed-address : addressNumber s owners book.bytes p ≡ 0
-      → addressPart s owners book p ≡ within book (entry_at book.bytes p + 1) (lengthByte book.bytes p)
-  unfolding addressPart
-  handed-address z = rw z
+  pub handed_address : address_number s owners book.bytes p ≡ 0
+      → address_part s owners book p ≡ within book (entry_at book.bytes p + 1) (length_byte book.bytes p)
+  unfolding address_part
+  handed_address z = rw z
 
   -- and it is not empty
-  pub handed-some : addressNumber s owners book.bytes p ≡ 0 → (addressPart s owners book p).bytes ≡ [] → ⊥
-  handed-some z e =
-      let a = address-passes s owners book.bytes p z in
-      let good = (book-passes s owners book.bytes a.0).1 in
-      let f : address_of book.bytes p ≡ [] = sym (ap (λ (part : Part). part.bytes) (handed-address z)) ∙ e in
+  pub handed_some : address_number s owners book.bytes p ≡ 0 → (address_part s owners book p).bytes ≡ [] → ⊥
+  handed_some z e =
+      let a = address_passes s owners book.bytes p z in
+      let good = (book_passes s owners book.bytes a.0).1 in
+      let f : address_of book.bytes p ≡ [] = sym (ap (λ (part : Part). part.bytes) (handed_address z)) ∙ e in
       omega (
         arith,
         ap length f,
-        address-long 1 book.bytes (length owners) good p a.1,
-        entry-long 1 book.bytes (length owners) good p a.1,
+        address_long 1 book.bytes (length owners) good p a.1,
+        entry_long 1 book.bytes (length owners) good p a.1,
       )
 
   -- after a refusal: the empty part
-  pub handed-none : (addressNumber s owners book.bytes p ≡ 0 → ⊥) → (addressPart s owners book p).bytes ≡ []
-  unfolding addressPart
-  handed-none refused = rw (ne_eqb (addressNumber s owners book.bytes p) 0 refused)
+  pub handed_none : (address_number s owners book.bytes p ≡ 0 → ⊥) → (address_part s owners book p).bytes ≡ []
+  unfolding address_part
+  handed_none refused = rw (ne_eqb (address_number s owners book.bytes p) 0 refused)

@@ -19,7 +19,7 @@ BadSizes s g = (s ≡ 0) ⊎ ((64 < s) ⊎ (256 < g))
 -- some owner is not below S
 pub record NoSite (s : ℕ) (owners : List ℕ) : Type 0 where
   pub pointer : ℕ
-  pub in-range : pointer < length owners
+  pub in_range : pointer < length owners
   pub too_large : s ≤ get_or owners pointer 0
 
 -- two pointers that have equal owner and equal address
@@ -36,25 +36,25 @@ abbrev pub NoPointer : List ℕ → List ℕ → ℕ → List ℕ → Type 0
 NoPointer owners book owner address = (p : ℕ) → p < length owners → get_or owners p 0 ≡ owner → address_of book p ≡ address → ⊥
 
 -- 1 and 2 as an opening gives them, then 18, before the rows of a question
-abbrev pub bookRows : ℕ → List ℕ → List ℕ → List Row → List Row
-bookRows s owners book rows =
+abbrev pub book_rows : ℕ → List ℕ → List ℕ → List Row → List Row
+book_rows s owners book rows =
     BadShape because (BadSizes s (length owners))
     ∷ BadTable because (NoSite s owners)
     ∷ BadBook because (ExactlyEntries (length owners) book → ⊥)
     ∷ rows
 
 -- the question for an address: then 3
-abbrev pub addressRows : ℕ → List ℕ → List ℕ → ℕ → List Row
-addressRows s owners book p = bookRows s owners book (BadName because (length owners ≤ p) ∷ [])
+abbrev pub address_rows : ℕ → List ℕ → List ℕ → ℕ → List Row
+address_rows s owners book p = book_rows s owners book (BadName because (length owners ≤ p) ∷ [])
 
 -- a check of the book: then 19
-abbrev pub checkRows : ℕ → List ℕ → List ℕ → List Row
-checkRows s owners book = bookRows s owners book (Twins because (Alike owners book) ∷ [])
+abbrev pub check_rows : ℕ → List ℕ → List ℕ → List Row
+check_rows s owners book = book_rows s owners book (Twins because (Alike owners book) ∷ [])
 
 -- a search by owner and whole address: then 3 for a wanted owner not below S, or 20
-abbrev pub searchRows : ℕ → List ℕ → List ℕ → ℕ → List ℕ → List Row
-searchRows s owners book owner wanted =
-    bookRows s owners book
+abbrev pub search_rows : ℕ → List ℕ → List ℕ → ℕ → List ℕ → List Row
+search_rows s owners book owner wanted =
+    book_rows s owners book
     (BadName because (s ≤ owner)
     ∷ NotListed because (NoPointer owners book owner wanted)
     ∷ [])

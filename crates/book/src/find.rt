@@ -1,8 +1,8 @@
 // An owner and an address in a book (Document 01, The address book).
 ghost use Rattle.std.specs.Prelude.{◌≡◌, true, ◌&&◌, ◌≤◌, eqb, length};
-ghost use Rattle.model.specs.Questions.{lowest as lowestOf};
-ghost use Rattle.book.specs.Book.{isBook, twins};
-ghost use Rattle.book.specs.Walk.{entryEnd, walked, holds, meets};
+ghost use Rattle.model.specs.Questions.{lowest as lowest_of};
+ghost use Rattle.book.specs.Book.{is_book, twins};
+ghost use Rattle.book.specs.Walk.{entry_end, walked, holds, meets};
 
 use crate::bytes::same_bytes;
 use crate::walk::{SHORTEST, entry_end};
@@ -16,7 +16,7 @@ pub struct Found {
 
 // Whether the entry from at to end, of a pointer with its owner, has an owner and an address.
 fn meets_at(its: u8, book: &[u8], at: usize, end: usize, owner: u8, address: &[u8]) -> bool
-    requires { end ≡ entryEnd 1 book.now at }
+    requires { end ≡ entry_end 1 book.now at }
     ensures { result ≡ (eqb its owner && holds book.now address.now at) }
 {
     if its != owner {
@@ -32,7 +32,7 @@ fn meets_at(its: u8, book: &[u8], at: usize, end: usize, owner: u8, address: &[u
 // The lowest of the first n pointers that has an owner and an address; n where none has both.
 pub fn lowest(n: usize, owners: &[u8], book: &[u8], owner: u8, address: &[u8]) -> Found
     requires { n ≤ length owners.now }
-    ensures pointer_value { result.pointer ≡ lowestOf n (meets owners.now book.now owner address.now) }
+    ensures pointer_value { result.pointer ≡ lowest_of n (meets owners.now book.now owner address.now) }
     ensures at_value { result.at ≡ walked 1 book.now 0 result.pointer }
 {
     let mut at = 0;
@@ -50,7 +50,7 @@ pub fn lowest(n: usize, owners: &[u8], book: &[u8], owner: u8, address: &[u8]) -
 
 // Whether two pointers have equal owner and equal address.
 pub fn has_twins(owners: &[u8], book: &[u8]) -> bool
-    requires { isBook (length owners.now) book.now ≡ true }
+    requires { is_book (length owners.now) book.now ≡ true }
     ensures { result ≡ twins owners.now book.now }
 {
     let mut at = 0;

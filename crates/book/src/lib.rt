@@ -5,8 +5,8 @@ mod walk;
 
 ghost use Rattle.std.specs.Prelude.{◌≡◌};
 ghost use Rattle.book.specs.Part.{seen};
-ghost use Rattle.book.specs.Book.{bookRefusal, addressNumber, addressPart, checkAnswer, searchAnswer};
-ghost use Rattle.book.specs.Walk.{entryPlace};
+ghost use Rattle.book.specs.Book.{book_refusal, address_number, address_part, check_answer, search_answer};
+ghost use Rattle.book.specs.Walk.{entry_place};
 
 use crate::find::{has_twins, lowest};
 use crate::walk::{SHORTEST, walk};
@@ -16,7 +16,7 @@ use tables::owners::owners_refusal;
 
 // 1, 2 of S and the owners, then 18.
 fn book_refusal(s: u8, owners: &[u8], book: &[u8]) -> u8
-    ensures { result ≡ bookRefusal s owners.now book.now }
+    ensures { result ≡ book_refusal s owners.now book.now }
 {
     let n = owners_refusal(s, owners);
     if n != 0 {
@@ -30,7 +30,7 @@ fn book_refusal(s: u8, owners: &[u8], book: &[u8]) -> u8
 
 // The question for an address: its number.
 pub fn address_number(s: u8, owners: &[u8], book: &[u8], pointer: u8) -> u8
-    ensures { result ≡ addressNumber s owners.now book.now pointer }
+    ensures { result ≡ address_number s owners.now book.now pointer }
 {
     let n = book_refusal(s, owners, book);
     if n != 0 {
@@ -44,7 +44,7 @@ pub fn address_number(s: u8, owners: &[u8], book: &[u8], pointer: u8) -> u8
 
 // Where the entry of a pointer starts; the book's length, where none does, after a refusal.
 pub fn entry_place(s: u8, owners: &[u8], book: &[u8], pointer: u8) -> usize
-    ensures { result ≡ entryPlace s owners.now book.now pointer }
+    ensures { result ≡ entry_place s owners.now book.now pointer }
 {
     if owners_refusal(s, owners) != 0 {
         return book.len();
@@ -63,7 +63,7 @@ pub fn entry_place(s: u8, owners: &[u8], book: &[u8], pointer: u8) -> usize
 
 // The question for an address: the address as that part of the lent book; after a refusal the part is empty.
 pub fn address<'a>(s: u8, owners: &[u8], book: &'a [u8], pointer: u8) -> &'a [u8]
-    ensures { seen result ≡ addressPart s owners.now (seen book.entry) pointer }
+    ensures { seen result ≡ address_part s owners.now (seen book.entry) pointer }
 {
     let at = entry_place(s, owners, book, pointer);
     if at == book.len() {
@@ -76,7 +76,7 @@ pub fn address<'a>(s: u8, owners: &[u8], book: &'a [u8], pointer: u8) -> &'a [u8
 
 // A check of the book.
 pub fn check(s: u8, owners: &[u8], book: &[u8]) -> Answer
-    ensures { result ≡ checkAnswer s owners.now book.now }
+    ensures { result ≡ check_answer s owners.now book.now }
 {
     let n = book_refusal(s, owners, book);
     if n != 0 {
@@ -90,7 +90,7 @@ pub fn check(s: u8, owners: &[u8], book: &[u8]) -> Answer
 
 // A search by owner and whole address.
 pub fn search(s: u8, owners: &[u8], book: &[u8], owner: u8, wanted: &[u8]) -> Answer
-    ensures { result ≡ searchAnswer s owners.now book.now owner wanted.now }
+    ensures { result ≡ search_answer s owners.now book.now owner wanted.now }
 {
     let n = owners_refusal(s, owners);
     if n != 0 {

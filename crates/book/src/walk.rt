@@ -1,13 +1,13 @@
 // Over the entries of a book (Document 01, The address book).
 ghost use Rattle.std.specs.Prelude.{◌≡◌};
-ghost use Rattle.book.specs.Walk.{entryEnd, walked};
+ghost use Rattle.book.specs.Walk.{entry_end, walked};
 
 // An address is 1 to 255 bytes.
 pub const SHORTEST: u8 = 1;
 
 // Past the entry at a place: a length byte of least or more, then as many bytes. Beyond the book's end where there is none.
 pub fn entry_end(least: u8, book: &[u8], at: usize) -> usize
-    ensures { result ≡ entryEnd least book.now at }
+    ensures { result ≡ entry_end least book.now at }
 {
     let none = book.len() + 1;
     if book.len() <= at {

@@ -3,7 +3,7 @@ use Prim.Native.Nat.{ℕ}
 use mathlib.Core.Path.{◌≡◌}
 use mathlib.Core.List.{List}
 use Rattle.model.specs.declared.Share.{Share}
-use Rattle.model.specs.Survey.{share as share_of, sheetNumber, sheet as sheetOf}
+use Rattle.model.specs.Survey.{share as share_of, sheet_number, sheet as sheet_of}
 use Rattle.model.specs.Tables.{lent}
 use Rattle.model.specs.Flat.{flat}
 use Rattle.model.proofs.OneOutcome.{one_answer}
@@ -13,19 +13,19 @@ module _ (s : ℕ) (owners send receive pool : List ℕ) where
   abbrev pub SharePromise : ℕ → ℕ → Share → Type 0
   SharePromise site pointer r = r ≡ share_of flat (lent s owners send receive pool) site pointer
 
-  pub no-two-shares : (site pointer : ℕ) {r q : Share} → SharePromise site pointer r → SharePromise site pointer q → r ≡ q
-  no-two-shares site pointer e f = one_answer e f
+  pub no_two_shares : (site pointer : ℕ) {r q : Share} → SharePromise site pointer r → SharePromise site pointer q → r ≡ q
+  no_two_shares site pointer e f = one_answer e f
 
   -- what `sheet::sheet_number` promises
   abbrev pub SheetNumberPromise : ℕ → ℕ → Type 0
-  SheetNumberPromise pointer r = r ≡ sheetNumber flat (lent s owners send receive pool) pointer
+  SheetNumberPromise pointer r = r ≡ sheet_number flat (lent s owners send receive pool) pointer
 
-  pub no-two-sheet-numbers : (pointer : ℕ) {r q : ℕ} → SheetNumberPromise pointer r → SheetNumberPromise pointer q → r ≡ q
-  no-two-sheet-numbers pointer e f = one_answer e f
+  pub no_two_sheet_numbers : (pointer : ℕ) {r q : ℕ} → SheetNumberPromise pointer r → SheetNumberPromise pointer q → r ≡ q
+  no_two_sheet_numbers pointer e f = one_answer e f
 
   -- what `sheet::sheet_by` promises
   abbrev pub SheetPromise : ℕ → List (List ℕ) → Type 0
-  SheetPromise pointer r = r ≡ sheetOf flat (lent s owners send receive pool) pointer
+  SheetPromise pointer r = r ≡ sheet_of flat (lent s owners send receive pool) pointer
 
-  pub no-two-sheets : (pointer : ℕ) {r q : List (List ℕ)} → SheetPromise pointer r → SheetPromise pointer q → r ≡ q
-  no-two-sheets pointer e f = one_answer e f
+  pub no_two_sheets : (pointer : ℕ) {r q : List (List ℕ)} → SheetPromise pointer r → SheetPromise pointer q → r ≡ q
+  no_two_sheets pointer e f = one_answer e f

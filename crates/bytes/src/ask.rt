@@ -1,7 +1,7 @@
 // Ask (Document 01, The calls).
 ghost use Rattle.std.specs.Prelude.{◌≡◌};
 ghost use Rattle.model.specs.Tables.{lent};
-ghost use Rattle.model.specs.Calls.{ask as askOf};
+ghost use Rattle.model.specs.Calls.{ask as ask_of};
 ghost use Rattle.model.specs.Flat.{flat};
 
 use crate::front::front;
@@ -20,7 +20,7 @@ pub fn ask(
     pointer: u8,
 ) -> Answer
     ensures { record { answer = result; desk = lent s owners.now send.now receive.now pool.now }
-        ≡ askOf flat (lent s owners.now send.now receive.now pool.now) site pointer }
+        ≡ ask_of flat (lent s owners.now send.now receive.now pool.now) site pointer }
 {
     let p = pointer as usize;
     let named = (site < s) & (p < owners.len());

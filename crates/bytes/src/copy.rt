@@ -1,7 +1,7 @@
 // Make copy (Document 01, The calls).
 ghost use Rattle.std.specs.Prelude.{◌≡◌};
 ghost use Rattle.model.specs.Tables.{lent};
-ghost use Rattle.model.specs.Calls.{makeCopy};
+ghost use Rattle.model.specs.Calls.{make_copy};
 ghost use Rattle.model.specs.Flat.{flat};
 
 use crate::counted::counted_front;
@@ -24,7 +24,7 @@ pub fn make_copy(
     pointer: u8,
 ) -> Answer
     ensures { record { answer = result; desk = lent s owners.now send.new receive.now pool.new }
-        ≡ makeCopy flat (lent s owners.now send.old receive.now pool.old) from to pointer }
+        ≡ make_copy flat (lent s owners.now send.old receive.now pool.old) from to pointer }
 {
     let p = pointer as usize;
     let named = (from < s) & (to < s) & (p < owners.len());

@@ -1,9 +1,9 @@
 // The tests that begin a make copy and a delete, and how many slots are empty (Document 01, Why a call is turned down; Document 02, One).
 ghost use Rattle.std.specs.Prelude.{◌≡◌, eqb};
 ghost use Rattle.model.specs.Refusals.{◌when◌};
-ghost use Rattle.model.specs.Questions.{howMany};
+ghost use Rattle.model.specs.Questions.{how_many};
 ghost use Rattle.model.specs.Tables.{lent, slots_of, empty_at};
-ghost use Rattle.model.specs.Calls.{front as frontOf};
+ghost use Rattle.model.specs.Calls.{front as front_of};
 ghost use Rattle.model.specs.Flat.{flat};
 
 use crate::lent::tables_refusal;
@@ -25,8 +25,8 @@ pub fn counted_front(
     pool: &[u8],
     named: bool,
 ) -> Front
-    ensures number_value { result.number ≡ frontOf flat (lent s owners.now send.now receive.now pool.now) named }
-    ensures empties_value { result.empties ≡ howMany (slots_of 5 pool.now) (empty_at 5 pool.now) when eqb result.number 0 }
+    ensures number_value { result.number ≡ front_of flat (lent s owners.now send.now receive.now pool.now) named }
+    ensures empties_value { result.empties ≡ how_many (slots_of 5 pool.now) (empty_at 5 pool.now) when eqb result.number 0 }
 {
     let n = tables_refusal(s, owners, send, receive, pool);
     if n != 0 {

@@ -1,7 +1,7 @@
 // Delete (Document 01, The calls).
 ghost use Rattle.std.specs.Prelude.{◌≡◌};
 ghost use Rattle.model.specs.Tables.{lent};
-ghost use Rattle.model.specs.Calls.{delete as deleteOf};
+ghost use Rattle.model.specs.Calls.{delete as delete_of};
 ghost use Rattle.model.specs.Flat.{flat};
 
 use crate::counted::counted_front;
@@ -23,7 +23,7 @@ pub fn delete(
     pointer: u8,
 ) -> Answer
     ensures { record { answer = result; desk = lent s owners.now send.now receive.new pool.new }
-        ≡ deleteOf flat (lent s owners.now send.now receive.old pool.old) site pointer }
+        ≡ delete_of flat (lent s owners.now send.now receive.old pool.old) site pointer }
 {
     let p = pointer as usize;
     let named = (site < s) & (p < owners.len());

@@ -1,7 +1,7 @@
 // Opening (Document 01, What the host lends).
 ghost use Rattle.std.specs.Prelude.{◌≡◌};
 ghost use Rattle.model.specs.Tables.{lent};
-ghost use Rattle.model.specs.Calls.{openDesk};
+ghost use Rattle.model.specs.Calls.{open_desk};
 ghost use Rattle.model.specs.Flat.{flat};
 
 use model::{Answer, Posted};
@@ -20,7 +20,7 @@ pub fn open_desk(
     pool: &mut [u8],
 ) -> Answer
     ensures { record { answer = result; desk = lent s owners.now send.new receive.new pool.new }
-        ≡ openDesk flat (lent s owners.now send.old receive.old pool.old) }
+        ≡ open_desk flat (lent s owners.now send.old receive.old pool.old) }
 {
     if !shape_good(s, owners.len(), send.len(), receive.len(), pool.len()) {
         return refused(1);

@@ -1,7 +1,7 @@
 // Receive (Document 01, The calls).
 ghost use Rattle.std.specs.Prelude.{◌≡◌};
 ghost use Rattle.model.specs.Tables.{lent};
-ghost use Rattle.model.specs.Calls.{receive as receiveOf};
+ghost use Rattle.model.specs.Calls.{receive as receive_of};
 ghost use Rattle.model.specs.Flat.{flat};
 
 use crate::front::slot_refusal;
@@ -23,7 +23,7 @@ pub fn receive(
     slot: u16,
 ) -> Answer
     ensures { record { answer = result; desk = lent s owners.now send.new receive.new pool.new }
-        ≡ receiveOf flat (lent s owners.now send.old receive.old pool.old) slot }
+        ≡ receive_of flat (lent s owners.now send.old receive.old pool.old) slot }
 {
     let n = slot_refusal(s, owners, &send[..], &receive[..], &pool[..], slot);
     if n != 0 {

@@ -2,7 +2,7 @@
 ghost use Rattle.std.specs.Prelude.{◌≡◌};
 ghost use Rattle.model.specs.Tables.{lent};
 ghost use Rattle.model.specs.Flat.{flat};
-ghost use Rattle.model.specs.Survey.{shareNumber, share as share_of};
+ghost use Rattle.model.specs.Survey.{share_number, share as share_of};
 
 use crate::front::front;
 use model::Share;
@@ -20,7 +20,7 @@ fn share_number(
     site: u8,
     pointer: u8,
 ) -> u8
-    ensures { result ≡ shareNumber flat (lent s owners.now send.now receive.now pool.now) site pointer }
+    ensures { result ≡ share_number flat (lent s owners.now send.now receive.now pool.now) site pointer }
 {
     let p = pointer as usize;
     let n = front(

@@ -2,7 +2,7 @@
 ghost use Rattle.std.specs.Prelude.{◌≡◌};
 ghost use Rattle.model.specs.Tables.{lent};
 ghost use Rattle.model.specs.Flat.{flat};
-ghost use Rattle.model.specs.Survey.{sheetNumber, sheet as sheetOf};
+ghost use Rattle.model.specs.Survey.{sheet_number, sheet as sheet_of};
 
 use crate::front::front;
 use slots::entries::{blank, entries};
@@ -16,7 +16,7 @@ pub fn sheet_number(
     pool: &[u8],
     pointer: u8,
 ) -> u8
-    ensures { result ≡ sheetNumber flat (lent s owners.now send.now receive.now pool.now) pointer }
+    ensures { result ≡ sheet_number flat (lent s owners.now send.now receive.now pool.now) pointer }
 {
     front(
         s,
@@ -38,8 +38,8 @@ pub fn sheet_by(
     pool: &[u8],
     pointer: u8,
 ) -> [[u32; 64]; 3]
-    requires { number ≡ sheetNumber flat (lent s owners.now send.now receive.now pool.now) pointer }
-    ensures { result ≡ sheetOf flat (lent s owners.now send.now receive.now pool.now) pointer }
+    requires { number ≡ sheet_number flat (lent s owners.now send.now receive.now pool.now) pointer }
+    ensures { result ≡ sheet_of flat (lent s owners.now send.now receive.now pool.now) pointer }
 {
     if number != 0 {
         return blank();

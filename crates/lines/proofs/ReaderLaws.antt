@@ -3,10 +3,10 @@ use Prim.Native.Nat.{ℕ, zero, suc}
 use mathlib.Core.Path.{◌≡◌, refl, ap}
 use mathlib.Core.List.{List}
 use denote.Ref.{Bor}
-use Rattle.model.specs.Places.{placeAfter}
-use Rattle.lines.specs.Reading.{movedOn, readerAfter}
+use Rattle.model.specs.Places.{place_after}
+use Rattle.lines.specs.Reading.{moved_on, reader_after}
 
-pub reader-after : (text : Bor (List ℕ)) (n : ℕ) → readerAfter text n ≡ record { text = text; at = placeAfter text.now n }
-unfolding readerAfter placeAfter
-reader-after text zero = refl
-reader-after text (suc n) = ap movedOn (reader-after text n)
+pub reader_after_lem : (text : Bor (List ℕ)) (n : ℕ) → reader_after text n ≡ record { text = text; at = place_after text.now n }
+unfolding reader_after place_after
+reader_after_lem text zero = refl
+reader_after_lem text (suc n) = ap moved_on (reader_after_lem text n)

@@ -12,9 +12,9 @@ use Rattle.model.specs.declared.Call.{Call}
 use Rattle.model.specs.Refusals.{BadShape}
 use Rattle.model.specs.Messages.{slot_of}
 use Rattle.model.specs.Answers.{refused}
-use Rattle.model.specs.Lines.{newline, digitsOf, line_of, writeCall}
-use Rattle.model.specs.Transcript.{answerBytes, answerLine}
-use Rattle.model.proofs.SlotLaws.{five-bytes, one_by_one}
+use Rattle.model.specs.Lines.{newline, digits_of, line_of, write_call}
+use Rattle.model.specs.Transcript.{answer_bytes, answer_line}
+use Rattle.model.proofs.SlotLaws.{five_bytes, one_by_one}
 use Rattle.model.proofs.DigitLaws.{length_digits}
 
 -- a store after a store is one store
@@ -23,47 +23,47 @@ sets_then [] l b i j e = let q : j ≡ i = omega arith in ap (λ (k : ℕ). sets
 sets_then (x ∷ a) l b i j e = sets_then a (set l i x) b (suc i) j (omega arith)
 
 -- no byte is written yet
-pub digits-all : (text bytes : List ℕ) (at : ℕ) → sets text (at + 0 * 2) (digitsOf bytes) ≡ sets text at (digitsOf bytes)
-digits-all text bytes at = let e : at + 0 * 2 ≡ at = omega arith in rw e
+pub digits_all : (text bytes : List ℕ) (at : ℕ) → sets text (at + 0 * 2) (digits_of bytes) ≡ sets text at (digits_of bytes)
+digits_all text bytes at = let e : at + 0 * 2 ≡ at = omega arith in rw e
 
 -- byte i is written: what is left to write, written further on, gives the same
-pub digits_more : (text later bytes : List ℕ) (at i : ℕ) → i < length bytes → later ≡ sets text (at + i * 2) (digitsOf (get_or bytes i 0 ∷ []))
-    → sets later (at + (i + 1) * 2) (digitsOf (drop (i + 1) bytes)) ≡ sets text (at + i * 2) (digitsOf (drop i bytes))
-unfolding digitsOf
+pub digits_more : (text later bytes : List ℕ) (at i : ℕ) → i < length bytes → later ≡ sets text (at + i * 2) (digits_of (get_or bytes i 0 ∷ []))
+    → sets later (at + (i + 1) * 2) (digits_of (drop (i + 1) bytes)) ≡ sets text (at + i * 2) (digits_of (drop i bytes))
+unfolding digits_of
 digits_more text later bytes at i h e =
-    ap (λ (l : List ℕ). sets l (at + (i + 1) * 2) (digitsOf (drop (i + 1) bytes))) e
-    ∙ sets_then (digitsOf (get_or bytes i 0 ∷ [])) text (digitsOf (drop (i + 1) bytes)) (at + i * 2) (at + (i + 1) * 2) (omega arith)
+    ap (λ (l : List ℕ). sets l (at + (i + 1) * 2) (digits_of (drop (i + 1) bytes))) e
+    ∙ sets_then (digits_of (get_or bytes i 0 ∷ [])) text (digits_of (drop (i + 1) bytes)) (at + i * 2) (at + (i + 1) * 2) (omega arith)
     ∙ rw (add-one, drop-cons bytes i 0 h)
 
 -- no byte is left to write
-pub digits-done : (text bytes : List ℕ) (at i : ℕ) → length bytes ≤ i → sets text at (digitsOf (drop i bytes)) ≡ text
-unfolding digitsOf
-digits-done text bytes at i h = rw (drop_of_length-le bytes h)
+pub digits_done : (text bytes : List ℕ) (at i : ℕ) → length bytes ≤ i → sets text at (digits_of (drop i bytes)) ≡ text
+unfolding digits_of
+digits_done text bytes at i h = rw (drop_of_length-le bytes h)
 
 -- a newline after the digits
-pub newline-after : (text later bytes : List ℕ) (at : ℕ) → later ≡ sets text at (digitsOf bytes)
-    → set later (at + length bytes * 2) newline ≡ sets text at (digitsOf bytes ++ (newline ∷ []))
-newline-after text later bytes at e =
+pub newline_after : (text later bytes : List ℕ) (at : ℕ) → later ≡ sets text at (digits_of bytes)
+    → set later (at + length bytes * 2) newline ≡ sets text at (digits_of bytes ++ (newline ∷ []))
+newline_after text later bytes at e =
     ap (λ (l : List ℕ). set l (at + length bytes * 2) newline) e
-    ∙ sets_then (digitsOf bytes) text (newline ∷ []) at (at + length bytes * 2) (omega (arith, length_digits bytes))
+    ∙ sets_then (digits_of bytes) text (newline ∷ []) at (at + length bytes * 2) (omega (arith, length_digits bytes))
 
 -- the bytes of an answer, the slot's one by one
-pub bytes-by-slot : (a : Answer) {l : List ℕ} → l ≡ slot_of a.posted
-    → a.number ∷ a.value / 256 ∷ a.value % 256 ∷ get_or l 0 0 ∷ get_or l 1 0 ∷ get_or l 2 0 ∷ get_or l 3 0 ∷ get_or l 4 0 ∷ [] ≡ answerBytes a
-bytes-by-slot a e = ap (λ (l : List ℕ). a.number ∷ a.value / 256 ∷ a.value % 256 ∷ l) (one_by_one a.posted e)
+pub bytes_by_slot : (a : Answer) {l : List ℕ} → l ≡ slot_of a.posted
+    → a.number ∷ a.value / 256 ∷ a.value % 256 ∷ get_or l 0 0 ∷ get_or l 1 0 ∷ get_or l 2 0 ∷ get_or l 3 0 ∷ get_or l 4 0 ∷ [] ≡ answer_bytes a
+bytes_by_slot a e = ap (λ (l : List ℕ). a.number ∷ a.value / 256 ∷ a.value % 256 ∷ l) (one_by_one a.posted e)
 
 -- an answer line has 17 characters
-pub length-answer-line : (a : Answer) → length (answerLine a) ≡ 17
-unfolding answerLine
-length-answer-line a =
-    length-append (digitsOf (answerBytes a)) (newline ∷ []) ∙ omega (arith, length_digits (answerBytes a), five-bytes a.posted)
+pub length_answer_line : (a : Answer) → length (answer_line a) ≡ 17
+unfolding answer_line
+length_answer_line a =
+    length-append (digits_of (answer_bytes a)) (newline ∷ []) ∙ omega (arith, length_digits (answer_bytes a), five_bytes a.posted)
 
 -- ---- the two outcomes of a written call
 module _ (text : List ℕ) (call : Call) {r : Answer} where
-  pub too_short : length text < 9 → r ≡ refused BadShape → record { answer = r; desk = text } ≡ writeCall text call
-  unfolding writeCall
+  pub too_short : length text < 9 → r ≡ refused BadShape → record { answer = r; desk = text } ≡ write_call text call
+  unfolding write_call
   too_short h q = simp (q, lt-ltb (length text) 9 h)
 
-  pub long-enough : (later : List ℕ) → 9 ≤ length text → r ≡ refused 0 → later ≡ sets text 0 (line_of call) → record { answer = r; desk = later } ≡ writeCall text call
-  unfolding writeCall
-  long-enough later h q e = simp (q, e, le-ltb (length text) 9 h)
+  pub long_enough_lem : (later : List ℕ) → 9 ≤ length text → r ≡ refused 0 → later ≡ sets text 0 (line_of call) → record { answer = r; desk = later } ≡ write_call text call
+  unfolding write_call
+  long_enough_lem later h q e = simp (q, e, le-ltb (length text) 9 h)

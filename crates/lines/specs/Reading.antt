@@ -15,10 +15,10 @@ abbrev pub answer_of : Reader → Next
 answer_of r = next_at r.text.now r.at
 
 -- over the same text, where its answer leaves it
-abbrev pub movedOn : Reader → Reader
-movedOn r = record { text = r.text; at = moved_to r.at (answer_of r) }
+abbrev pub moved_on : Reader → Reader
+moved_on r = record { text = r.text; at = moved_to r.at (answer_of r) }
 
 -- moved n times from the start
-unfoldable pub readerAfter : Bor (List ℕ) → ℕ → Reader
-readerAfter text zero = started text
-readerAfter text (suc n) = movedOn (readerAfter text n)
+unfoldable pub reader_after : Bor (List ℕ) → ℕ → Reader
+reader_after text zero = started text
+reader_after text (suc n) = moved_on (reader_after text n)

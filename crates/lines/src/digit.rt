@@ -1,6 +1,6 @@
 // Digits 0-9 A-F, two to a byte (Document 01, Lines).
 ghost use Rattle.std.specs.Prelude.{◌≡◌, ◌+◌, ◌*◌, ◌≤◌, ◌<◌, length};
-ghost use Rattle.model.specs.Lines.{digitOf, number_of, byte_of, byteAt};
+ghost use Rattle.model.specs.Lines.{digit_of, number_of, byte_of, byte_at};
 
 // The sixteen digits, in order (Document 02, Four).
 const DIGITS: [u8; 16] = [
@@ -10,7 +10,7 @@ const DIGITS: [u8; 16] = [
 // The digit of a number below 16.
 pub(crate) fn digit_of(n: u8) -> u8
     requires { n < 16 }
-    ensures { result ≡ digitOf n }
+    ensures { result ≡ digit_of n }
 {
     DIGITS[n as usize]
 }
@@ -41,7 +41,7 @@ pub fn byte_of(high: u8, low: u8) -> u16
 // Byte i of a line of digits.
 pub fn byte_at(line: &[u8], i: usize) -> u16
     requires { i * 2 + 2 ≤ length line.now }
-    ensures { result ≡ byteAt line.now i }
+    ensures { result ≡ byte_at line.now i }
 {
     byte_of(line[i * 2], line[i * 2 + 1])
 }

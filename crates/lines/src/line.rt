@@ -1,7 +1,7 @@
 // A line as a call (Document 01, Lines).
 ghost use Rattle.std.specs.Prelude.{◌≡◌, ◌&&◌, ◌||◌, not, leb, eqb};
-ghost use Rattle.model.specs.Refusals.{BadLine, UnknownCode, PrivateCode, ◌when◌, ◌orElse◌};
-ghost use Rattle.model.specs.Lines.{call_of, readBytes, readLine};
+ghost use Rattle.model.specs.Refusals.{BadLine, UnknownCode, PrivateCode, ◌when◌, ◌or_else◌};
+ghost use Rattle.model.specs.Lines.{call_of, read_bytes, read_line};
 
 use crate::digit::byte_at;
 use model::{Call, Read};
@@ -61,7 +61,7 @@ fn call_of(code: u8, a: u8, b: u8, c: u8) -> Call
 
 // What four bytes say: the code is tested, then the last byte.
 pub fn read_bytes(code: u8, a: u8, b: u8, c: u8) -> Read
-    ensures { result ≡ readBytes code a b c }
+    ensures { result ≡ read_bytes code a b c }
 {
     let by_code = code_refusal(code);
     let by_last = last_refusal(code, c);
@@ -74,7 +74,7 @@ pub fn read_bytes(code: u8, a: u8, b: u8, c: u8) -> Read
 
 // What a line says: eight characters, then digits, then the rest.
 pub fn read_line(line: &[u8]) -> Read
-    ensures { result ≡ readLine line.now }
+    ensures { result ≡ read_line line.now }
 {
     if line.len() != 8 {
         return Read::Refused(BAD_LINE);

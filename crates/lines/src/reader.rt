@@ -2,7 +2,7 @@
 ghost use Rattle.std.specs.Prelude.{◌≡◌, cond, ◌+◌, ltb, length};
 ghost use Rattle.model.specs.Lines.{end_at, next_at};
 ghost use Rattle.model.specs.Places.{moved_to};
-ghost use Rattle.lines.specs.Reading.{started, answer_of, movedOn};
+ghost use Rattle.lines.specs.Reading.{started, answer_of, moved_on};
 
 use crate::line::read_line;
 use model::Next;
@@ -80,7 +80,7 @@ impl<'a> Reader<'a> {
 
     // Past the line where it stands; at the end it stays.
     pub fn moved(self) -> Reader<'a>
-        ensures { result ≡ movedOn self.entry }
+        ensures { result ≡ moved_on self.entry }
     {
         Reader {
             text: self.text,

@@ -10,33 +10,33 @@ use Rattle.model.specs.declared.Call.TheVariants.{MakeCopy, Receive, Delete, Ask
 use Rattle.model.specs.Refusals.{Held}
 use Rattle.model.specs.Answers.{refused, Outcome, unless}
 use Rattle.model.specs.Layout.{Layout}
-use Rattle.model.specs.Calls.{openRefusal, openDesk, copyNumber, copied, makeCopy, receiveNumber, received, receive, deleteNumber, deleted, delete, askNumber, asked, ask, step}
-use Rattle.model.specs.Demands.{Row, FirstOf, ◌among◌, listedWith, open_rows, heldRowsOf, held_rows, messageRows, rows_of, TellsEarly}
-use Rattle.model.proofs.Exactly.{open-exactly, call-exactly}
+use Rattle.model.specs.Calls.{open_refusal, open_desk, copy_number, copied, make_copy, receive_number, received, receive, delete_number, deleted, delete, ask_number, asked, ask, step}
+use Rattle.model.specs.Demands.{Row, FirstOf, ◌among◌, listed_with, open_rows, held_rows_of, held_rows, message_rows, rows_of, TellsEarly}
+use Rattle.model.proofs.Exactly.{open_exactly, call_exactly}
 
 -- what is refused is as `unless` has it
-refused-whole : {D : Type 0} (n : ℕ) (d : D) (o : Outcome D) → o.answer.number ≡ 0 → (unless n d o).answer.number ≢ 0
+refused_whole : {D : Type 0} (n : ℕ) (d : D) (o : Outcome D) → o.answer.number ≡ 0 → (unless n d o).answer.number ≢ 0
     → unless n d o ≡ record { answer = refused (unless n d o).answer.number; desk = d }
-refused-whole zero d o e given = absurd (given e)
-refused-whole (suc n) d o e given = refl
+refused_whole zero d o e given = absurd (given e)
+refused_whole (suc n) d o e given = refl
 
 -- a table's number is 0, or among its rows'
 abbrev pub numbers : List Row → List ℕ
 numbers [] = []
 numbers (row ∷ rows) = row.number ∷ numbers rows
 
-from-the-table : (rows : List Row) (n : ℕ) → FirstOf rows n → n ≢ 0 → n among numbers rows
+from_the_table : (rows : List Row) (n : ℕ) → FirstOf rows n → n ≢ 0 → n among numbers rows
 unfolding FirstOf ◌among◌
-from-the-table [] n f given = absurd (given f)
-from-the-table (row ∷ rows) n (inl f) given = inl f.1
-from-the-table (row ∷ rows) n (inr f) given = inr (from-the-table rows n f.1 given)
+from_the_table [] n f given = absurd (given f)
+from_the_table (row ∷ rows) n (inl f) given = inl f.1
+from_the_table (row ∷ rows) n (inr f) given = inr (from_the_table rows n f.1 given)
 
 -- ---- lists of numbers
 -- a longer tail
-pub among-tail : (n k : ℕ) (ks ls : List ℕ) → (n among ks → n among ls) → n among (k ∷ ks) → n among (k ∷ ls)
+pub among_tail : (n k : ℕ) (ks ls : List ℕ) → (n among ks → n among ls) → n among (k ∷ ks) → n among (k ∷ ls)
 unfolding ◌among◌
-among-tail n k ks ls wider (inl e) = inl e
-among-tail n k ks ls wider (inr m) = inr (wider m)
+among_tail n k ks ls wider (inl e) = inl e
+among_tail n k ks ls wider (inr m) = inr (wider m)
 
 -- the second of two lists
 pub among_second : (n : ℕ) (ks ls : List ℕ) → n among ls → n among (ks ++ ls)
@@ -52,74 +52,74 @@ among_first n (k ∷ ks) ls (inl e) = inl e
 among_first n (k ∷ ks) ls (inr m) = inr (among_first n ks ls m)
 
 -- the numbers of two tables, one after the other
-among-both : (n : ℕ) (rows more : List Row) (ks ls : List ℕ) → (n among numbers rows → n among ks) → (n among numbers more → n among ls)
+among_both : (n : ℕ) (rows more : List Row) (ks ls : List ℕ) → (n among numbers rows → n among ks) → (n among numbers more → n among ls)
     → n among numbers (rows ++ more) → n among (ks ++ ls)
 unfolding ◌among◌
-among-both n [] more ks ls one two m = among_second n ks ls (two m)
-among-both n (row ∷ rows) more ks ls one two (inl e) = among_first n ks ls (one (inl e))
-among-both n (row ∷ rows) more ks ls one two (inr m) = among-both n rows more ks ls (λ h. one (inr h)) two m
+among_both n [] more ks ls one two m = among_second n ks ls (two m)
+among_both n (row ∷ rows) more ks ls one two (inl e) = among_first n ks ls (one (inl e))
+among_both n (row ∷ rows) more ks ls one two (inr m) = among_both n rows more ks ls (λ h. one (inr h)) two m
 
 module _ {D : Type 0} (L : Layout D) where
   -- a message's own numbers are among 4, 10, 6
-  of-a-message : (d : D) (m : Posted) (n : ℕ) → n among numbers (messageRows L d m) → n among (4 ∷ 10 ∷ 6 ∷ [])
+  of_a_message : (d : D) (m : Posted) (n : ℕ) → n among numbers (message_rows L d m) → n among (4 ∷ 10 ∷ 6 ∷ [])
   unfolding ◌among◌
-  of-a-message d (Copy a b p) n (inl e) = inl e
-  of-a-message d (Copy a b p) n (inr e) = absurd e
-  of-a-message d (Decr a b p) n (inl e) = inr (inl e)
-  of-a-message d (Decr a b p) n (inr e) = absurd e
-  of-a-message d (IncDec a b c p) n (inl e) = inr (inr (inl e))
-  of-a-message d (IncDec a b c p) n (inr e) = absurd e
-  of-a-message d Nothing n e = absurd e
+  of_a_message d (Copy a b p) n (inl e) = inl e
+  of_a_message d (Copy a b p) n (inr e) = absurd e
+  of_a_message d (Decr a b p) n (inl e) = inr (inl e)
+  of_a_message d (Decr a b p) n (inr e) = absurd e
+  of_a_message d (IncDec a b c p) n (inl e) = inr (inr (inl e))
+  of_a_message d (IncDec a b c p) n (inr e) = absurd e
+  of_a_message d Nothing n e = absurd e
 
   -- A call with a number that is not 0 leaves all lent memory as it was; its value is 0 and it posts nothing.
-  pub refused-leaves-all : (d : D) (c : Call) → (step L d c).answer.number ≢ 0 → step L d c ≡ record { answer = refused (step L d c).answer.number; desk = d }
-  unfolding step makeCopy receive delete ask copied received deleted asked
-  refused-leaves-all d (MakeCopy from to p) = refused-whole (copyNumber L d from to p) d _ refl
-  refused-leaves-all d (Receive slot) = refused-whole (receiveNumber L d slot) d _ refl
-  refused-leaves-all d (Delete site p) = refused-whole (deleteNumber L d site p) d _ refl
-  refused-leaves-all d (Ask site p) = refused-whole (askNumber L d site p) d _ refl
+  pub refused_leaves_all : (d : D) (c : Call) → (step L d c).answer.number ≢ 0 → step L d c ≡ record { answer = refused (step L d c).answer.number; desk = d }
+  unfolding step make_copy receive delete ask copied received deleted asked
+  refused_leaves_all d (MakeCopy from to p) = refused_whole (copy_number L d from to p) d _ refl
+  refused_leaves_all d (Receive slot) = refused_whole (receive_number L d slot) d _ refl
+  refused_leaves_all d (Delete site p) = refused_whole (delete_number L d site p) d _ refl
+  refused_leaves_all d (Ask site p) = refused_whole (ask_number L d site p) d _ refl
 
   -- The same of an opening.
-  pub refused-opening-leaves-all : (d : D) → (openDesk L d).answer.number ≢ 0 → openDesk L d ≡ record { answer = refused (openDesk L d).answer.number; desk = d }
-  unfolding openDesk
-  refused-opening-leaves-all d = refused-whole (openRefusal L d) d _ refl
+  pub refused_opening_leaves_all : (d : D) → (open_desk L d).answer.number ≢ 0 → open_desk L d ≡ record { answer = refused (open_desk L d).answer.number; desk = d }
+  unfolding open_desk
+  refused_opening_leaves_all d = refused_whole (open_refusal L d) d _ refl
 
   -- Ask changes nothing.
-  pub ask-changes-nothing : (d : D) (site p : ℕ) → (ask L d site p).desk ≡ d
+  pub ask_changes_nothing : (d : D) (site p : ℕ) → (ask L d site p).desk ≡ d
   unfolding ask asked
-  ask-changes-nothing d site p = go (askNumber L d site p)
+  ask_changes_nothing d site p = go (ask_number L d site p)
     where
       go : (n : ℕ) → (unless n d (asked L d p)).desk ≡ d
       go zero = refl
       go (suc n) = refl
 
   -- A refusal number is one of its table's.
-  pub refused-by-a-row : (earlyRows : D → ℕ → List Row) → TellsEarly L earlyRows → (d : D) (c : Call) → (step L d c).answer.number ≢ 0 → (step L d c).answer.number among numbers (rows_of L earlyRows d c)
-  refused-by-a-row earlyRows tells d c = from-the-table (rows_of L earlyRows d c) _ (call-exactly L earlyRows tells d c)
+  pub refused_by_a_row : (early_rows : D → ℕ → List Row) → TellsEarly L early_rows → (d : D) (c : Call) → (step L d c).answer.number ≢ 0 → (step L d c).answer.number among numbers (rows_of L early_rows d c)
+  refused_by_a_row early_rows tells d c = from_the_table (rows_of L early_rows d c) _ (call_exactly L early_rows tells d c)
 
   -- The same of an opening.
-  pub refused-opening-by-listed : (d : D) → (openDesk L d).answer.number ≢ 0 → (openDesk L d).answer.number among (1 ∷ 2 ∷ [])
-  refused-opening-by-listed d = from-the-table (open_rows L d) _ (open-exactly L d)
+  pub refused_opening_by_listed : (d : D) → (open_desk L d).answer.number ≢ 0 → (open_desk L d).answer.number among (1 ∷ 2 ∷ [])
+  refused_opening_by_listed d = from_the_table (open_rows L d) _ (open_exactly L d)
 
   -- It is one of those that are listed for the call, early among them where the rows of what comes too early have no other.
-  pub refused-by-listed : (earlyRows : D → ℕ → List Row) (early : List ℕ) → TellsEarly L earlyRows
-      → ((d : D) (slot n : ℕ) → n among numbers (earlyRows d slot) → n among early)
-      → (d : D) (c : Call) → (step L d c).answer.number ≢ 0 → (step L d c).answer.number among listedWith early c
-  refused-by-listed earlyRows early tells only d (MakeCopy from to p) given = refused-by-a-row earlyRows tells d (MakeCopy from to p) given
-  refused-by-listed earlyRows early tells only d (Receive slot) given =
+  pub refused_by_listed : (early_rows : D → ℕ → List Row) (early : List ℕ) → TellsEarly L early_rows
+      → ((d : D) (slot n : ℕ) → n among numbers (early_rows d slot) → n among early)
+      → (d : D) (c : Call) → (step L d c).answer.number ≢ 0 → (step L d c).answer.number among listed_with early c
+  refused_by_listed early_rows early tells only d (MakeCopy from to p) given = refused_by_a_row early_rows tells d (MakeCopy from to p) given
+  refused_by_listed early_rows early tells only d (Receive slot) given =
       let n = (step L d (Receive slot)).answer.number in
-      among-tail n 1 _ _ (among-tail n 2 _ _ (among-tail n 3 _ _ (among-tail n 8 _ _
-      (among-both n (earlyRows d slot) _ early _ (only d slot n) (of-a-message d (L.message d slot) n)))))
-      (refused-by-a-row earlyRows tells d (Receive slot) given)
-  refused-by-listed earlyRows early tells only d (Delete site p) given = refused-by-a-row earlyRows tells d (Delete site p) given
-  refused-by-listed earlyRows early tells only d (Ask site p) given = refused-by-a-row earlyRows tells d (Ask site p) given
+      among_tail n 1 _ _ (among_tail n 2 _ _ (among_tail n 3 _ _ (among_tail n 8 _ _
+      (among_both n (early_rows d slot) _ early _ (only d slot n) (of_a_message d (L.message d slot) n)))))
+      (refused_by_a_row early_rows tells d (Receive slot) given)
+  refused_by_listed early_rows early tells only d (Delete site p) given = refused_by_a_row early_rows tells d (Delete site p) given
+  refused_by_listed early_rows early tells only d (Ask site p) given = refused_by_a_row early_rows tells d (Ask site p) given
 
   -- Held has no number but 9.
-  pub only-held : (d : D) (slot n : ℕ) → n among numbers (held_rows L d slot) → n among (Held ∷ [])
+  pub only_held : (d : D) (slot n : ℕ) → n among numbers (held_rows L d slot) → n among (Held ∷ [])
   unfolding ◌among◌
-  only-held d slot n = go (L.message d slot)
+  only_held d slot n = go (L.message d slot)
     where
-      go : (m : Posted) → n among numbers (heldRowsOf L d m) → n among (Held ∷ [])
+      go : (m : Posted) → n among numbers (held_rows_of L d m) → n among (Held ∷ [])
       go (Copy a b p) e = absurd e
       go (Decr a b p) e = e
       go (IncDec a b c p) e = absurd e

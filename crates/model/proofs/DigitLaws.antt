@@ -9,110 +9,110 @@ use lib.ListN.{length, get_or, drop}
 use lib.Seq.{drop-cons}
 use borrow.Author.Tests.{lt-ltb, le-ltb, le-leb, lt-leb, ne_eqb, ltb-true, ltb-false, leb-true}
 use Rattle.model.proofs.TestLaws.{and_both}
-use Rattle.model.specs.Lines.{digitOf, number_of, byte_of, digitsOf, byteAt, newline, width}
+use Rattle.model.specs.Lines.{digit_of, number_of, byte_of, digits_of, byte_at, newline, width}
 
 -- ---- the number of a character
-pub decimal-number : (c : ℕ) → 48 ≤ c → c ≤ 57 → number_of c ≡ c - 48
+pub decimal_number : (c : ℕ) → 48 ≤ c → c ≤ 57 → number_of c ≡ c - 48
 unfolding number_of
-decimal-number c low high = simp (le-leb 48 c low, le-leb c 57 high)
+decimal_number c low high = simp (le-leb 48 c low, le-leb c 57 high)
 
-pub letter-number : (c : ℕ) → 65 ≤ c → c ≤ 70 → number_of c ≡ c - 55
+pub letter_number : (c : ℕ) → 65 ≤ c → c ≤ 70 → number_of c ≡ c - 55
 unfolding number_of
-letter-number c low high = simp (le-leb 48 c (omega arith), lt-leb c 57 (omega arith), le-leb 65 c low, le-leb c 70 high)
+letter_number c low high = simp (le-leb 48 c (omega arith), lt-leb c 57 (omega arith), le-leb 65 c low, le-leb c 70 high)
 
-pub no-number-below : (c : ℕ) → c < 48 → number_of c ≡ 16
+pub no_number_below : (c : ℕ) → c < 48 → number_of c ≡ 16
 unfolding number_of
-no-number-below c low = simp (lt-leb 48 c low, lt-leb 65 c (omega arith))
+no_number_below c low = simp (lt-leb 48 c low, lt-leb 65 c (omega arith))
 
-pub no-number-between : (c : ℕ) → 57 < c → c < 65 → number_of c ≡ 16
+pub no_number_between : (c : ℕ) → 57 < c → c < 65 → number_of c ≡ 16
 unfolding number_of
-no-number-between c low high = simp (le-leb 48 c (omega arith), lt-leb c 57 low, lt-leb 65 c high)
+no_number_between c low high = simp (le-leb 48 c (omega arith), lt-leb c 57 low, lt-leb 65 c high)
 
-pub no-number-above : (c : ℕ) → 70 < c → number_of c ≡ 16
+pub no_number_above : (c : ℕ) → 70 < c → number_of c ≡ 16
 unfolding number_of
-no-number-above c low = simp (le-leb 48 c (omega arith), lt-leb c 57 (omega arith), le-leb 65 c (omega arith), lt-leb c 70 low)
+no_number_above c low = simp (le-leb 48 c (omega arith), lt-leb c 57 (omega arith), le-leb 65 c (omega arith), lt-leb c 70 low)
 
 -- ---- a number, its digit, its number
 number_by : (t : Bool) (n : ℕ) → ltb n 10 ≡ t → n < 16 → number_of (cond t (48 + n) (55 + n)) ≡ n
-number_by true n e h = let l = ltb-true n 10 e in decimal-number (48 + n) (omega arith) (omega arith) ∙ omega arith
-number_by false n e h = let l = ltb-false n 10 e in letter-number (55 + n) (omega arith) (omega arith) ∙ omega arith
+number_by true n e h = let l = ltb-true n 10 e in decimal_number (48 + n) (omega arith) (omega arith) ∙ omega arith
+number_by false n e h = let l = ltb-false n 10 e in letter_number (55 + n) (omega arith) (omega arith) ∙ omega arith
 
-pub number-of-digit : (n : ℕ) → n < 16 → number_of (digitOf n) ≡ n
-number-of-digit n h = number_by (ltb n 10) n refl h
+pub number_of_digit : (n : ℕ) → n < 16 → number_of (digit_of n) ≡ n
+number_of_digit n h = number_by (ltb n 10) n refl h
 
 -- the digit 0 is that of 0 alone
-pub digit-zero : (n : ℕ) → digitOf n ≡ 48 → n ≡ 0
-digit-zero n = go (ltb n 10)
+pub digit_zero : (n : ℕ) → digit_of n ≡ 48 → n ≡ 0
+digit_zero n = go (ltb n 10)
   where
     go : (t : Bool) → cond t (48 + n) (55 + n) ≡ 48 → n ≡ 0
     go true e = omega (arith, e)
     go false e = absurd (omega (arith, e))
 
 -- ---- a digit, its number, its digit
-digit-by : (d l : Bool) (c : ℕ) → (leb 48 c && leb c 57) ≡ d → (leb 65 c && leb c 70) ≡ l
-    → cond d (c - 48) (cond l (c - 55) 16) < 16 → digitOf (cond d (c - 48) (cond l (c - 55) 16)) ≡ c
-digit-by true l c e f h =
+digit_by : (d l : Bool) (c : ℕ) → (leb 48 c && leb c 57) ≡ d → (leb 65 c && leb c 70) ≡ l
+    → cond d (c - 48) (cond l (c - 55) 16) < 16 → digit_of (cond d (c - 48) (cond l (c - 55) 16)) ≡ c
+digit_by true l c e f h =
     let b = and_both (leb 48 c) (leb c 57) e in
     let low = leb-true 48 c b.0 in
     let high = leb-true c 57 b.1 in
     simp (lt-ltb (c - 48) 10 (omega arith)) (omega arith)
-digit-by false true c e f h =
+digit_by false true c e f h =
     let b = and_both (leb 65 c) (leb c 70) f in
     let low = leb-true 65 c b.0 in
     let high = leb-true c 70 b.1 in
     simp (le-ltb (c - 55) 10 (omega arith)) (omega arith)
-digit-by false false c e f h = absurd (omega arith)
+digit_by false false c e f h = absurd (omega arith)
 
-pub digit-of-number : (c : ℕ) → number_of c < 16 → digitOf (number_of c) ≡ c
+pub digit_of_number : (c : ℕ) → number_of c < 16 → digit_of (number_of c) ≡ c
 unfolding number_of
-digit-of-number c h = digit-by (leb 48 c && leb c 57) (leb 65 c && leb c 70) c refl refl h
+digit_of_number c h = digit_by (leb 48 c && leb c 57) (leb 65 c && leb c 70) c refl refl h
 
 -- ---- a byte, its two digits, its byte
-pub byte-of-digits : (b : ℕ) → b < 256 → byte_of (digitOf (b / 16)) (digitOf (b % 16)) ≡ b
+pub byte_of_digits : (b : ℕ) → b < 256 → byte_of (digit_of (b / 16)) (digit_of (b % 16)) ≡ b
 unfolding byte_of
-byte-of-digits b h =
-    let x = number-of-digit (b / 16) (omega arith) in
-    let y = number-of-digit (b % 16) (omega arith) in
+byte_of_digits b h =
+    let x = number_of_digit (b / 16) (omega arith) in
+    let y = number_of_digit (b % 16) (omega arith) in
     simp (x, y, lt-ltb (b / 16) 16 (omega arith), lt-ltb (b % 16) 16 (omega arith)) (omega arith)
 
 -- ---- two characters that are a byte, its digits
-pub digits-of-byte : (high low : ℕ) → byte_of high low < 256 → (digitOf (byte_of high low / 16) ≡ high) × (digitOf (byte_of high low % 16) ≡ low)
+pub digits_of_byte : (high low : ℕ) → byte_of high low < 256 → (digit_of (byte_of high low / 16) ≡ high) × (digit_of (byte_of high low % 16) ≡ low)
 unfolding byte_of
-digits-of-byte high low h = go (ltb (number_of high) 16 && ltb (number_of low) 16) refl h
+digits_of_byte high low h = go (ltb (number_of high) 16 && ltb (number_of low) 16) refl h
   where
     go : (t : Bool) → (ltb (number_of high) 16 && ltb (number_of low) 16) ≡ t → cond t (number_of high * 16 + number_of low) 256 < 256
-        → (digitOf (cond t (number_of high * 16 + number_of low) 256 / 16) ≡ high) × (digitOf (cond t (number_of high * 16 + number_of low) 256 % 16) ≡ low)
+        → (digit_of (cond t (number_of high * 16 + number_of low) 256 / 16) ≡ high) × (digit_of (cond t (number_of high * 16 + number_of low) 256 % 16) ≡ low)
     go true e h =
         let b = and_both (ltb (number_of high) 16) (ltb (number_of low) 16) e in
         let x = ltb-true (number_of high) 16 b.0 in
         let y = ltb-true (number_of low) 16 b.1 in
         let p : (number_of high * 16 + number_of low) / 16 ≡ number_of high = omega arith in
         let q : (number_of high * 16 + number_of low) % 16 ≡ number_of low = omega arith in
-        (rw p (digit-of-number high x), rw q (digit-of-number low y))
+        (rw p (digit_of_number high x), rw q (digit_of_number low y))
     go false e h = absurd (omega arith)
 
 -- ---- the byte of two numbers, as its code computes it
 module _ (high low h l : ℕ) (p : h ≡ number_of high) (q : l ≡ number_of low) where
-  pub byte-of-both : (ltb h 16 && ltb l 16) ≡ true → h * 16 + l ≡ byte_of high low
+  pub byte_of_both : (ltb h 16 && ltb l 16) ≡ true → h * 16 + l ≡ byte_of high low
   unfolding byte_of
-  byte-of-both t = simp (sym p, sym q, t)
+  byte_of_both t = simp (sym p, sym q, t)
 
   pub no_byte : (ltb h 16 && ltb l 16) ≡ false → 256 ≡ byte_of high low
   unfolding byte_of
   no_byte t = simp (sym p, sym q, t)
 
 -- two digits a byte
-pub length_digits : (bs : List ℕ) → length (digitsOf bs) ≡ length bs * 2
-unfolding digitsOf
+pub length_digits : (bs : List ℕ) → length (digits_of bs) ≡ length bs * 2
+unfolding digits_of
 length_digits [] = refl
 length_digits (b ∷ bs) = let e = length_digits bs in omega arith
 
 -- a byte of a line and what its digits leave of the line: two characters more
-pub digits-of-byte-at : (line bs : List ℕ) (i : ℕ) → i * 2 + 2 ≤ length line → byteAt line i < 256 → digitsOf bs ≡ drop (i * 2 + 2) line
-    → digitsOf (byteAt line i ∷ bs) ≡ drop (i * 2) line
-unfolding digitsOf
-digits-of-byte-at line bs i h b e =
-    let d = digits-of-byte (get_or line (i * 2) 0) (get_or line (i * 2 + 1) 0) b in
+pub digits_of_byte_at : (line bs : List ℕ) (i : ℕ) → i * 2 + 2 ≤ length line → byte_at line i < 256 → digits_of bs ≡ drop (i * 2 + 2) line
+    → digits_of (byte_at line i ∷ bs) ≡ drop (i * 2) line
+unfolding digits_of
+digits_of_byte_at line bs i h b e =
+    let d = digits_of_byte (get_or line (i * 2) 0) (get_or line (i * 2 + 1) 0) b in
     let first : i * 2 < length line = omega arith in
     let second : i * 2 + 1 < length line = omega arith in
     let n : suc (i * 2) ≡ i * 2 + 1 = omega arith in
@@ -120,13 +120,13 @@ digits-of-byte-at line bs i h b e =
     rw (d.0, d.1, e, drop-cons line (i * 2) 0 first, n, drop-cons line (i * 2 + 1) 0 second, m)
 
 -- ---- no digit is a newline
-digit-by-not : (t : Bool) (n : ℕ) → eqb (cond t (48 + n) (55 + n)) newline ≡ false
-digit-by-not true n = ne_eqb (48 + n) newline (λ e. omega arith)
-digit-by-not false n = ne_eqb (55 + n) newline (λ e. omega arith)
+digit_by_not : (t : Bool) (n : ℕ) → eqb (cond t (48 + n) (55 + n)) newline ≡ false
+digit_by_not true n = ne_eqb (48 + n) newline (λ e. omega arith)
+digit_by_not false n = ne_eqb (55 + n) newline (λ e. omega arith)
 
-pub width-of-digits : (bs rest : List ℕ) → width (digitsOf bs ++ (newline ∷ rest)) ≡ length bs * 2
-unfolding width digitsOf
-width-of-digits [] rest = refl
-width-of-digits (b ∷ bs) rest =
-    let e = width-of-digits bs rest in
-    simp (digit-by-not (ltb (b / 16) 10) (b / 16), digit-by-not (ltb (b % 16) 10) (b % 16)) (omega arith)
+pub width_of_digits : (bs rest : List ℕ) → width (digits_of bs ++ (newline ∷ rest)) ≡ length bs * 2
+unfolding width digits_of
+width_of_digits [] rest = refl
+width_of_digits (b ∷ bs) rest =
+    let e = width_of_digits bs rest in
+    simp (digit_by_not (ltb (b / 16) 10) (b / 16), digit_by_not (ltb (b % 16) 10) (b % 16)) (omega arith)

@@ -5,7 +5,7 @@ use mathlib.Core.List.{List, [], ◌∷◌}
 use lib.ListN.{replicate}
 use Rattle.model.specs.Refusals.{BadShape}
 use Rattle.model.specs.Questions.{every}
-use Rattle.model.specs.Calls.{openRefusal, openDesk}
+use Rattle.model.specs.Calls.{open_refusal, open_desk}
 use Rattle.model.specs.Tables.{Desk, lent, all_below}
 use Rattle.model.specs.Flat.{flat}
 
@@ -41,12 +41,12 @@ zeros e = lent e.sites (replicate e.pointers 0) (replicate (e.sites * e.pointers
 
 pub numbers : List Edge → List ℕ
 numbers [] = []
-numbers (e ∷ es) = (openDesk flat (zeros e)).answer.number ∷ numbers es
+numbers (e ∷ es) = (open_desk flat (zeros e)).answer.number ∷ numbers es
 
 pub listed : List Edge → List ℕ
 listed [] = []
 listed (e ∷ es) = e.number ∷ listed es
 
-pub edges-open-as-listed : numbers edges ≡ listed edges
-unfolding edges numbers listed openDesk openRefusal all_below every
-edges-open-as-listed = refl
+pub edges_open_as_listed : numbers edges ≡ listed edges
+unfolding edges numbers listed open_desk open_refusal all_below every
+edges_open_as_listed = refl

@@ -6,11 +6,11 @@ use Rattle.model.specs.declared.Posted.TheVariants.{Copy}
 use Rattle.model.specs.declared.Answer.{Answer}
 use Rattle.model.specs.declared.Call.{Call}
 use Rattle.model.specs.declared.Call.TheVariants.{MakeCopy, Receive, Delete, Ask}
-use Rattle.model.specs.Questions.{every, some, howMany, lowestFrom}
-use Rattle.model.specs.Messages.{messageOf}
-use Rattle.model.specs.Answers.{acceptedTelling, refused}
-use Rattle.model.specs.Calls.{copyRefusal, deleteRefusal, lentRefusal, front, openRefusal, openDesk, copyNumber, copied, makeCopy, receiveNumber, received, receive, deleteNumber, deleted, delete, askNumber, asked, ask, step}
-use Rattle.model.specs.Tables.{Desk, all_below, allSlotsGood, ownRows}
+use Rattle.model.specs.Questions.{every, some, how_many, lowest_from}
+use Rattle.model.specs.Messages.{message_of}
+use Rattle.model.specs.Answers.{accepted_telling, refused}
+use Rattle.model.specs.Calls.{copy_refusal, delete_refusal, lent_refusal, front, open_refusal, open_desk, copy_number, copied, make_copy, receive_number, received, receive, delete_number, deleted, delete, ask_number, asked, ask, step}
+use Rattle.model.specs.Tables.{Desk, all_below, all_slots_good, own_rows}
 use Rattle.model.specs.Flat.{flat}
 use Rattle.model.specs.Transcript.{fresh}
 
@@ -53,16 +53,16 @@ pub listed : List Row → List ℕ
 listed [] = []
 listed (r ∷ rs) = r.told ∷ listed rs
 
-pub fourteen-tell : counts (answers (openDesk flat (fresh 3 (0 ∷ []) 4)).desk table) ≡ listed table
-unfolding table answers counts listed fresh openDesk openRefusal step front lentRefusal makeCopy copyNumber copyRefusal copied receive receiveNumber received delete deleteNumber deleteRefusal deleted ask askNumber asked all_below allSlotsGood ownRows every some howMany lowestFrom messageOf
-fourteen-tell = refl
+pub fourteen_tell : counts (answers (open_desk flat (fresh 3 (0 ∷ []) 4)).desk table) ≡ listed table
+unfolding table answers counts listed fresh open_desk open_refusal step front lent_refusal make_copy copy_number copy_refusal copied receive receive_number received delete delete_number delete_refusal deleted ask ask_number asked all_below all_slots_good own_rows every some how_many lowest_from message_of
+fourteen_tell = refl
 
 -- S = 2, one owner 0, one slot: make copy tells 1; once more gives 7 and tells nothing
-pub one-slot : answers (openDesk flat (fresh 2 (0 ∷ []) 1)).desk (row (MakeCopy 0 1 0) 1 ∷ row (MakeCopy 0 1 0) 0 ∷ []) ≡ acceptedTelling 1 0 (Copy 0 1 0) ∷ refused 7 ∷ []
-unfolding answers fresh openDesk openRefusal step front lentRefusal makeCopy copyNumber copyRefusal copied all_below allSlotsGood ownRows every howMany lowestFrom messageOf
-one-slot = refl
+pub one_slot : answers (open_desk flat (fresh 2 (0 ∷ []) 1)).desk (row (MakeCopy 0 1 0) 1 ∷ row (MakeCopy 0 1 0) 0 ∷ []) ≡ accepted_telling 1 0 (Copy 0 1 0) ∷ refused 7 ∷ []
+unfolding answers fresh open_desk open_refusal step front lent_refusal make_copy copy_number copy_refusal copied all_below all_slots_good own_rows every how_many lowest_from message_of
+one_slot = refl
 
 -- a pool of no slots: 7, and nothing is told
-pub no_slot : answers (openDesk flat (fresh 2 (0 ∷ []) 0)).desk (row (MakeCopy 0 1 0) 0 ∷ []) ≡ refused 7 ∷ []
-unfolding answers fresh openDesk openRefusal step front lentRefusal makeCopy copyNumber copyRefusal copied all_below allSlotsGood ownRows every howMany lowestFrom messageOf
+pub no_slot : answers (open_desk flat (fresh 2 (0 ∷ []) 0)).desk (row (MakeCopy 0 1 0) 0 ∷ []) ≡ refused 7 ∷ []
+unfolding answers fresh open_desk open_refusal step front lent_refusal make_copy copy_number copy_refusal copied all_below all_slots_good own_rows every how_many lowest_from message_of
 no_slot = refl

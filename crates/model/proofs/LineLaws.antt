@@ -11,41 +11,41 @@ use lib.Seq.{drop-cons, drop-drop}
 use borrow.Author.Tests.{lt-ltb, le-ltb, eq-eqb, ne_eqb, ltb-true, ltb-false}
 use Rattle.model.specs.declared.Read.{Read}
 use Rattle.model.specs.declared.Next.TheVariants.{Line, Ended}
-use Rattle.model.specs.Lines.{newline, readLine, onto, lines_of, width, end_at, line_at, past_at, next_at}
+use Rattle.model.specs.Lines.{newline, read_line, onto, lines_of, width, end_at, line_at, past_at, next_at}
 
 -- ---- the end of a line, by steps
-width-here : (l : List ℕ) (c : ℕ) (cs : List ℕ) → l ≡ c ∷ cs → c ≡ newline → width l ≡ 0
+width_here : (l : List ℕ) (c : ℕ) (cs : List ℕ) → l ≡ c ∷ cs → c ≡ newline → width l ≡ 0
 unfolding width
-width-here l c cs e q = ap width e ∙ simp (eq-eqb c newline q)
+width_here l c cs e q = ap width e ∙ simp (eq-eqb c newline q)
 
-width-on : (l : List ℕ) (c : ℕ) (cs : List ℕ) → l ≡ c ∷ cs → (c ≡ newline → ⊥) → width l ≡ suc (width cs)
+width_on : (l : List ℕ) (c : ℕ) (cs : List ℕ) → l ≡ c ∷ cs → (c ≡ newline → ⊥) → width l ≡ suc (width cs)
 unfolding width
-width-on l c cs e q = ap width e ∙ simp (ne_eqb c newline q)
+width_on l c cs e q = ap width e ∙ simp (ne_eqb c newline q)
 
-pub end-here : (text : List ℕ) (end : ℕ) → end < length text → get_or text end 0 ≡ newline → end_at text end ≡ end
-end-here text end h q = let w = width-here (drop end text) (get_or text end 0) (drop (suc end) text) (drop-cons text end 0 h) q in omega arith
+pub end_here : (text : List ℕ) (end : ℕ) → end < length text → get_or text end 0 ≡ newline → end_at text end ≡ end
+end_here text end h q = let w = width_here (drop end text) (get_or text end 0) (drop (suc end) text) (drop-cons text end 0 h) q in omega arith
 
 pub end_on : (text : List ℕ) (end : ℕ) → end < length text → (get_or text end 0 ≡ newline → ⊥) → end_at text end ≡ end_at text (end + 1)
 end_on text end h q =
-    let w : width (drop end text) ≡ suc (width (drop (suc end) text)) = width-on (drop end text) (get_or text end 0) (drop (suc end) text) (drop-cons text end 0 h) q in
+    let w : width (drop end text) ≡ suc (width (drop (suc end) text)) = width_on (drop end text) (get_or text end 0) (drop (suc end) text) (drop-cons text end 0 h) q in
     rw add-one (omega arith)
 
-pub end-last : (text : List ℕ) (end : ℕ) → length text ≤ end → end_at text end ≡ end
+pub end_last : (text : List ℕ) (end : ℕ) → length text ≤ end → end_at text end ≡ end
 unfolding width
-end-last text end h = let w : width (drop end text) ≡ 0 = ap width (drop_of_length-le text h) in omega arith
+end_last text end h = let w : width (drop end text) ≡ 0 = ap width (drop_of_length-le text h) in omega arith
 
 -- ---- its bounds
-width-most : (l : List ℕ) → width l ≤ length l
+width_most : (l : List ℕ) → width l ≤ length l
 unfolding width
-width-most [] = omega arith
-width-most (c ∷ cs) = go (eqb c newline) (width-most cs)
+width_most [] = omega arith
+width_most (c ∷ cs) = go (eqb c newline) (width_most cs)
   where
     go : (t : Bool) → width cs ≤ length cs → cond t 0 (suc (width cs)) ≤ suc (length cs)
     go true h = omega arith
     go false h = omega arith
 
-pub end-most : (text : List ℕ) (at : ℕ) → at ≤ length text → end_at text at ≤ length text
-end-most text at h = omega (arith, width-most (drop at text), length-drop at text)
+pub end_most : (text : List ℕ) (at : ℕ) → at ≤ length text → end_at text at ≤ length text
+end_most text at h = omega (arith, width_most (drop at text), length-drop at text)
 
 past_by : (t : Bool) (text : List ℕ) (at : ℕ) → ltb (end_at text at) (length text) ≡ t → at < length text
     → (at < cond t (end_at text at + 1) (length text)) × (cond t (end_at text at + 1) (length text) ≤ length text)
@@ -53,8 +53,8 @@ past_by true text at e h = let l = ltb-true (end_at text at) (length text) e in 
 past_by false text at e h = (omega arith, omega arith)
 
 -- the place past a line is past its start, and no further than the end
-pub past-later : (text : List ℕ) (at : ℕ) → at < length text → (at < past_at text at) × (past_at text at ≤ length text)
-past-later text at h = past_by (ltb (end_at text at) (length text)) text at refl h
+pub past_later : (text : List ℕ) (at : ℕ) → at < length text → (at < past_at text at) × (past_at text at ≤ length text)
+past_later text at h = past_by (ltb (end_at text at) (length text)) text at refl h
 
 -- ---- the first line and the rest
 first_by : (t : Bool) (c : ℕ) (cs : List ℕ) → onto c (lines_of cs) ≡ (c ∷ take (width cs) cs) ∷ lines_of (drop (suc (width cs)) cs)
@@ -62,19 +62,19 @@ first_by : (t : Bool) (c : ℕ) (cs : List ℕ) → onto c (lines_of cs) ≡ (c 
 first_by true c cs h = refl
 first_by false c cs h = h
 
-first-line : (c : ℕ) (cs : List ℕ) → lines_of (c ∷ cs) ≡ take (width (c ∷ cs)) (c ∷ cs) ∷ lines_of (drop (suc (width (c ∷ cs))) (c ∷ cs))
+first_line : (c : ℕ) (cs : List ℕ) → lines_of (c ∷ cs) ≡ take (width (c ∷ cs)) (c ∷ cs) ∷ lines_of (drop (suc (width (c ∷ cs))) (c ∷ cs))
 unfolding lines_of width
-first-line c [] = first_by (eqb c newline) c [] refl
-first-line c (x ∷ xs) = first_by (eqb c newline) c (x ∷ xs) (ap (onto c) (first-line x xs))
+first_line c [] = first_by (eqb c newline) c [] refl
+first_line c (x ∷ xs) = first_by (eqb c newline) c (x ∷ xs) (ap (onto c) (first_line x xs))
 
 first_of : (l : List ℕ) → 0 < length l → lines_of l ≡ take (width l) l ∷ lines_of (drop (suc (width l)) l)
 first_of [] h = absurd (omega arith)
-first_of (c ∷ cs) h = first-line c cs
+first_of (c ∷ cs) h = first_line c cs
 
 -- what follows a line follows its end by one character, or is nothing
-rest-by : (t : Bool) (text : List ℕ) (end : ℕ) → ltb end (length text) ≡ t → drop (suc end) text ≡ drop (cond t (end + 1) (length text)) text
-rest-by true text end e = rw add-one
-rest-by false text end e =
+rest_by : (t : Bool) (text : List ℕ) (end : ℕ) → ltb end (length text) ≡ t → drop (suc end) text ≡ drop (cond t (end + 1) (length text)) text
+rest_by true text end e = rw add-one
+rest_by false text end e =
     let l = ltb-false end (length text) e in
     let past : length text ≤ suc end = omega arith in
     let last : length text ≤ length text = omega arith in
@@ -91,22 +91,22 @@ lines_at text at h =
     let n : 0 < length (drop at text) = simp length-drop (omega arith) in
     let k : at + suc (width (drop at text)) ≡ suc (end_at text at) = omega arith in
     let d = drop-drop (suc (width (drop at text))) at text in
-    let r = rest-by (ltb (end_at text at) (length text)) text (end_at text at) refl in
+    let r = rest_by (ltb (end_at text at) (length text)) text (end_at text at) refl in
     first_of (drop at text) n ∙ rw (d, k, r)
 
 -- ---- what the reader answers, as its code computes it
-pub line-there : (text : List ℕ) (at end past : ℕ) (read : Read) → at < length text → end ≡ end_at text at → read ≡ readLine (take (end - at) (drop at text))
+pub line_there : (text : List ℕ) (at end past : ℕ) (read : Read) → at < length text → end ≡ end_at text at → read ≡ read_line (take (end - at) (drop at text))
     → past ≡ cond (ltb end (length text)) (end + 1) (length text) → Line read past ≡ next_at text at
 unfolding next_at
-line-there text at end past read h e p q =
+line_there text at end past read h e p q =
     let w : end - at ≡ width (drop at text) = omega arith in
     simp (p, q, w, lt-ltb at (length text) h) (rw e)
 
 -- ---- what it answers at a place, where a line starts there and where none does
-pub answer-there : (text : List ℕ) (at : ℕ) → at < length text → next_at text at ≡ Line (readLine (line_at text at)) (past_at text at)
+pub answer_there : (text : List ℕ) (at : ℕ) → at < length text → next_at text at ≡ Line (read_line (line_at text at)) (past_at text at)
 unfolding next_at
-answer-there text at h = simp (lt-ltb at (length text) h)
+answer_there text at h = simp (lt-ltb at (length text) h)
 
-pub none-there : (text : List ℕ) (at : ℕ) → length text ≤ at → next_at text at ≡ Ended
+pub none_there : (text : List ℕ) (at : ℕ) → length text ≤ at → next_at text at ≡ Ended
 unfolding next_at
-none-there text at h = simp (le-ltb at (length text) h)
+none_there text at h = simp (le-ltb at (length text) h)

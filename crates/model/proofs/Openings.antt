@@ -6,13 +6,13 @@ use mathlib.Core.List.{List, [], ◌∷◌, ◌++◌}
 use lib.ListN.{length}
 use borrow.Author.Tests.{lt-ltb, le-ltb}
 use Rattle.model.specs.declared.Posted.TheVariants.{IncDec}
-use Rattle.model.specs.Questions.{every, some, lowestFrom, up_to}
-use Rattle.model.specs.Messages.{messageOf}
+use Rattle.model.specs.Questions.{every, some, lowest_from, up_to}
+use Rattle.model.specs.Messages.{message_of}
 use Rattle.model.specs.Answers.{accepted, refused}
-use Rattle.model.specs.Calls.{copyRefusal, deleteRefusal, lentRefusal, front, openRefusal, openDesk, copyNumber, copied, makeCopy, receiveNumber, received, receive, deleteNumber, deleted, delete, askNumber, asked, ask, step}
-use Rattle.model.specs.Tables.{all_below, allSlotsGood, ownRows}
-use Rattle.model.specs.Lines.{number_of, digitsOf, byte_of, lineRefusal, readLine, lines_of}
-use Rattle.model.specs.Transcript.{answerLine, fresh, opening, answers, session, transcript}
+use Rattle.model.specs.Calls.{copy_refusal, delete_refusal, lent_refusal, front, open_refusal, open_desk, copy_number, copied, make_copy, receive_number, received, receive, delete_number, deleted, delete, ask_number, asked, ask, step}
+use Rattle.model.specs.Tables.{all_below, all_slots_good, own_rows}
+use Rattle.model.specs.Lines.{number_of, digits_of, byte_of, line_refusal, read_line, lines_of}
+use Rattle.model.specs.Transcript.{answer_line, fresh, opening, answers, session, transcript}
 use Rattle.model.proofs.LineTable.{characters}
 
 -- the lines of an input, and the answer lines
@@ -52,19 +52,19 @@ listed [] = []
 listed (r ∷ rs) = texts r.answered ∷ listed rs
 
 pub openings : written runs ≡ listed runs
-unfolding runs written listed characters texts transcript session lines_of opening fresh openDesk openRefusal answers answerLine readLine lineRefusal byte_of number_of digitsOf step front lentRefusal makeCopy copyNumber copyRefusal copied receive receiveNumber received delete deleteNumber deleteRefusal deleted ask askNumber asked all_below allSlotsGood ownRows every some lowestFrom up_to messageOf
+unfolding runs written listed characters texts transcript session lines_of opening fresh open_desk open_refusal answers answer_line read_line line_refusal byte_of number_of digits_of step front lent_refusal make_copy copy_number copy_refusal copied receive receive_number received delete delete_number delete_refusal deleted ask ask_number asked all_below all_slots_good own_rows every some lowest_from up_to message_of
 openings = refl
 
 -- An answer line, digit by digit: number, value in two bytes, message as slot bytes; and one of a refusal.
-pub answer-lines : answerLine (accepted 1023 (IncDec 63 62 61 255)) ++ answerLine (refused 20) ≡ characters "0003FF033F3E3DFF" ++ characters "1400000000000000"
-unfolding answerLine digitsOf characters
-answer-lines = refl
+pub answer_lines : answer_line (accepted 1023 (IncDec 63 62 61 255)) ++ answer_line (refused 20) ≡ characters "0003FF033F3E3DFF" ++ characters "1400000000000000"
+unfolding answer_line digits_of characters
+answer_lines = refl
 
 -- An input above 8,192 bytes gets one answer line, 17, and no other; one of 8,192 or fewer is run.
 pub too_long : (input : List ℕ) → 8192 < length input → transcript input ≡ characters "1100000000000000"
-unfolding transcript answerLine digitsOf characters
+unfolding transcript answer_line digits_of characters
 too_long input l = rw (lt-ltb 8192 (length input) l)
 
-pub not-too-long : (input : List ℕ) → length input ≤ 8192 → transcript input ≡ session (lines_of input)
+pub not_too_long : (input : List ℕ) → length input ≤ 8192 → transcript input ≡ session (lines_of input)
 unfolding transcript
-not-too-long input l = rw (le-ltb 8192 (length input) l)
+not_too_long input l = rw (le-ltb 8192 (length input) l)

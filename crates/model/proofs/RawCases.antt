@@ -7,11 +7,11 @@ use Rattle.model.specs.declared.Posted.TheVariants.{Copy, Dec, IncDec, Nothing}
 use Rattle.model.specs.declared.Answer.{Answer}
 use Rattle.model.specs.declared.Call.{Call}
 use Rattle.model.specs.declared.Call.TheVariants.{MakeCopy, Receive, Delete, Ask}
-use Rattle.model.specs.Questions.{every, some, howMany, lowestFrom}
-use Rattle.model.specs.Messages.{messageOf}
-use Rattle.model.specs.Answers.{accepted, acceptedTelling, refused, Outcome}
-use Rattle.model.specs.Calls.{copyRefusal, deleteRefusal, lentRefusal, front, copyNumber, copied, makeCopy, receiveNumber, received, receive, deleteNumber, deleted, delete, askNumber, asked, ask, step}
-use Rattle.model.specs.Tables.{Desk, lent, all_below, allSlotsGood}
+use Rattle.model.specs.Questions.{every, some, how_many, lowest_from}
+use Rattle.model.specs.Messages.{message_of}
+use Rattle.model.specs.Answers.{accepted, accepted_telling, refused, Outcome}
+use Rattle.model.specs.Calls.{copy_refusal, delete_refusal, lent_refusal, front, copy_number, copied, make_copy, receive_number, received, receive, delete_number, deleted, delete, ask_number, asked, ask, step}
+use Rattle.model.specs.Tables.{Desk, lent, all_below, all_slots_good}
 use Rattle.model.specs.Flat.{flat}
 
 -- a call, the desk that it finds, its answer and the desk that it leaves
@@ -32,7 +32,7 @@ pub cases : List Case
 cases =
     case (MakeCopy 2 1 1)
     (desk (3 ∷ 0 ∷ 1 ∷ 5 ∷ 0 ∷ 7 ∷ []) (1 ∷ 0 ∷ 1 ∷ 1 ∷ 0 ∷ 1 ∷ []) (1 ∷ 0 ∷ 2 ∷ 0 ∷ 0 ∷ 0 ∷ 0 ∷ 0 ∷ 0 ∷ 0 ∷ []))
-    (acceptedTelling 1 1 (Copy 2 1 1))
+    (accepted_telling 1 1 (Copy 2 1 1))
     (desk (3 ∷ 0 ∷ 1 ∷ 5 ∷ 0 ∷ 8 ∷ []) (1 ∷ 0 ∷ 1 ∷ 1 ∷ 0 ∷ 1 ∷ []) (1 ∷ 0 ∷ 2 ∷ 0 ∷ 0 ∷ 1 ∷ 2 ∷ 1 ∷ 0 ∷ 1 ∷ []))
     ∷ case (Receive 0)
     (desk (3 ∷ 0 ∷ 1 ∷ 5 ∷ 0 ∷ 7 ∷ []) (1 ∷ 0 ∷ 1 ∷ 1 ∷ 0 ∷ 1 ∷ []) (1 ∷ 0 ∷ 2 ∷ 0 ∷ 0 ∷ 0 ∷ 0 ∷ 0 ∷ 0 ∷ 0 ∷ []))
@@ -60,7 +60,7 @@ cases =
     (desk (3 ∷ 0 ∷ 1 ∷ 5 ∷ 0 ∷ 7 ∷ []) (1 ∷ 0 ∷ 1 ∷ 1 ∷ 0 ∷ 1 ∷ []) (3 ∷ 1 ∷ 2 ∷ 0 ∷ 1 ∷ 2 ∷ 1 ∷ 2 ∷ 0 ∷ 1 ∷ []))
     ∷ case (Delete 2 0)
     (desk (3 ∷ 0 ∷ 1 ∷ 5 ∷ 0 ∷ 7 ∷ []) (1 ∷ 0 ∷ 0 ∷ 1 ∷ 1 ∷ 1 ∷ []) (1 ∷ 0 ∷ 1 ∷ 0 ∷ 0 ∷ 0 ∷ 0 ∷ 0 ∷ 0 ∷ 0 ∷ []))
-    (acceptedTelling 1 1 (Dec 2 0 0))
+    (accepted_telling 1 1 (Dec 2 0 0))
     (desk (3 ∷ 0 ∷ 1 ∷ 5 ∷ 0 ∷ 7 ∷ []) (1 ∷ 0 ∷ 0 ∷ 1 ∷ 0 ∷ 1 ∷ []) (1 ∷ 0 ∷ 1 ∷ 0 ∷ 0 ∷ 2 ∷ 2 ∷ 0 ∷ 0 ∷ 0 ∷ []))
     ∷ case (Ask 0 0)
     (desk (3 ∷ 0 ∷ 1 ∷ 5 ∷ 0 ∷ 7 ∷ []) (1 ∷ 0 ∷ 1 ∷ 1 ∷ 0 ∷ 1 ∷ []) [])
@@ -81,20 +81,20 @@ pub listed : List Case → List (Outcome Desk)
 listed [] = []
 listed (c ∷ cs) = record { answer = c.answer; desk = c.after } ∷ listed cs
 
-pub raw-cases : given cases ≡ listed cases
-unfolding cases given listed step front lentRefusal makeCopy copyNumber copyRefusal copied receive receiveNumber received delete deleteNumber deleteRefusal deleted ask askNumber asked all_below allSlotsGood every some howMany lowestFrom messageOf
-raw-cases = refl
+pub raw_cases : given cases ≡ listed cases
+unfolding cases given listed step front lent_refusal make_copy copy_number copy_refusal copied receive receive_number received delete delete_number delete_refusal deleted ask ask_number asked all_below all_slots_good every some how_many lowest_from message_of
+raw_cases = refl
 
 -- The counter and the cell of site s and pointer p stand at s x G + p of the send table and of the receive table.
-pub counter-place : (d : Desk) (s p : ℕ) → flat.counter d s p ≡ get_or d.send (s * length d.owners + p) 0
-counter-place d s p = refl
+pub counter_place : (d : Desk) (s p : ℕ) → flat.counter d s p ≡ get_or d.send (s * length d.owners + p) 0
+counter_place d s p = refl
 
-pub cell-place : (d : Desk) (s p : ℕ) → flat.cell d s p ≡ get_or d.receive (s * length d.owners + p) 0
-cell-place d s p = refl
+pub cell_place : (d : Desk) (s p : ℕ) → flat.cell d s p ≡ get_or d.receive (s * length d.owners + p) 0
+cell_place d s p = refl
 
 -- There they are written, and nothing else is.
-pub counter-written : (d : Desk) (s p n : ℕ) → flat.setCounter d s p n ≡ lent d.S d.owners (set d.send (s * length d.owners + p) n) d.receive d.pool
-counter-written d s p n = refl
+pub counter_written : (d : Desk) (s p n : ℕ) → flat.set_counter d s p n ≡ lent d.S d.owners (set d.send (s * length d.owners + p) n) d.receive d.pool
+counter_written d s p n = refl
 
-pub cell-written : (d : Desk) (s p n : ℕ) → flat.setCell d s p n ≡ lent d.S d.owners d.send (set d.receive (s * length d.owners + p) n) d.pool
-cell-written d s p n = refl
+pub cell_written : (d : Desk) (s p n : ℕ) → flat.set_cell d s p n ≡ lent d.S d.owners d.send (set d.receive (s * length d.owners + p) n) d.pool
+cell_written d s p n = refl

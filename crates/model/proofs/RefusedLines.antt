@@ -1,12 +1,12 @@
 -- Document 01, "Lines": lines that are refused, by their form, their code or their last byte, among lines that are not. One table, one claim.
 use mathlib.Core.Path.{◌≡◌, refl}
 use mathlib.Core.List.{List, [], ◌∷◌}
-use Rattle.model.specs.Questions.{every, some, lowestFrom, up_to}
-use Rattle.model.specs.Messages.{messageOf}
-use Rattle.model.specs.Calls.{copyRefusal, deleteRefusal, lentRefusal, front, openRefusal, openDesk, copyNumber, copied, makeCopy, receiveNumber, received, receive, deleteNumber, deleted, delete, askNumber, asked, ask, step}
-use Rattle.model.specs.Tables.{all_below, allSlotsGood, ownRows}
-use Rattle.model.specs.Lines.{number_of, digitsOf, byte_of, lineRefusal, readLine, lines_of}
-use Rattle.model.specs.Transcript.{answerLine, fresh, opening, answers, session, transcript}
+use Rattle.model.specs.Questions.{every, some, lowest_from, up_to}
+use Rattle.model.specs.Messages.{message_of}
+use Rattle.model.specs.Calls.{copy_refusal, delete_refusal, lent_refusal, front, open_refusal, open_desk, copy_number, copied, make_copy, receive_number, received, receive, delete_number, deleted, delete, ask_number, asked, ask, step}
+use Rattle.model.specs.Tables.{all_below, all_slots_good, own_rows}
+use Rattle.model.specs.Lines.{number_of, digits_of, byte_of, line_refusal, read_line, lines_of}
+use Rattle.model.specs.Transcript.{answer_line, fresh, opening, answers, session, transcript}
 use Rattle.model.proofs.LineTable.{Row, row, characters, joined}
 
 pub refused : List Row
@@ -32,6 +32,6 @@ refused =
     ∷ row "02010000" "0300000000000000"
     ∷ []
 
-pub refused-lines : transcript (joined (λ r. r.line) refused) ≡ joined (λ r. r.answer) refused
-unfolding refused characters joined transcript session lines_of opening fresh openDesk openRefusal answers answerLine readLine lineRefusal byte_of number_of digitsOf step front lentRefusal makeCopy copyNumber copyRefusal copied receive receiveNumber received delete deleteNumber deleteRefusal deleted ask askNumber asked all_below allSlotsGood ownRows every some lowestFrom up_to messageOf
-refused-lines = refl
+pub refused_lines : transcript (joined (λ r. r.line) refused) ≡ joined (λ r. r.answer) refused
+unfolding refused characters joined transcript session lines_of opening fresh open_desk open_refusal answers answer_line read_line line_refusal byte_of number_of digits_of step front lent_refusal make_copy copy_number copy_refusal copied receive receive_number received delete delete_number delete_refusal deleted ask ask_number asked all_below all_slots_good own_rows every some lowest_from up_to message_of
+refused_lines = refl

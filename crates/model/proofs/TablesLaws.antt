@@ -4,27 +4,27 @@ use mathlib.Core.Path.{◌≡◌, refl, sym, ◌∙◌}
 use mathlib.Core.Bool.{Bool, true, false, ◌&&◌, not}
 use lib.ListN.{length}
 use borrow.Author.Tests.{not-false}
-use Rattle.model.specs.Refusals.{BadShape, BadTable, ◌when◌, ◌orElse◌}
-use Rattle.model.specs.Calls.{lentRefusal}
+use Rattle.model.specs.Refusals.{BadShape, BadTable, ◌when◌, ◌or_else◌}
+use Rattle.model.specs.Calls.{lent_refusal}
 use Rattle.model.specs.InWords.{Sized}
 use Rattle.model.specs.Tables.{Lent, all_below}
-use Rattle.model.specs.Parts.{ReceiveTable, Pool, deskOf}
-use Rattle.model.proofs.TestLaws.{when-not, or_else_none, number-first}
+use Rattle.model.specs.Parts.{ReceiveTable, Pool, desk_of}
+use Rattle.model.proofs.TestLaws.{when_not, or_else_none, number_first}
 use Rattle.model.proofs.ShapeLaws.{sized}
 use Rattle.model.proofs.PartLaws.{fitting}
 
 module _ {R Q : Type 0} (T : ReceiveTable R) (P : Pool Q) where
   -- 1, 2 of all that is lent but the slots
-  abbrev pub tablesRefusal : Lent R Q → ℕ
-  tablesRefusal d = BadShape when not ((deskOf T P).shaped d) or_else BadTable when not (all_below d.S d.owners && T.bits d.S d.receive)
+  abbrev pub tables_refusal : Lent R Q → ℕ
+  tables_refusal d = BadShape when not ((desk_of T P).shaped d) or_else BadTable when not (all_below d.S d.owners && T.bits d.S d.receive)
 
   module _ (d : Lent R Q) where
-    abbrev slotsGood : Bool
-    slotsGood = P.slotsGood d.S (length d.owners) d.pool
+    abbrev slots_good : Bool
+    slots_good = P.slots_good d.S (length d.owners) d.pool
 
-    slots-last : lentRefusal (deskOf T P) d ≡ tablesRefusal d or_else BadTable when not slotsGood
-    unfolding lentRefusal
-    slots-last = go ((deskOf T P).shaped d) (all_below d.S d.owners && T.bits d.S d.receive) slotsGood
+    slots_last : lent_refusal (desk_of T P) d ≡ tables_refusal d or_else BadTable when not slots_good
+    unfolding lent_refusal
+    slots_last = go ((desk_of T P).shaped d) (all_below d.S d.owners && T.bits d.S d.receive) slots_good
       where
         go : (a b c : Bool) → BadShape when not a or_else BadTable when not (b && c) ≡ (BadShape when not a or_else BadTable when not b) or_else BadTable when not c
         go true true c = refl
@@ -32,21 +32,21 @@ module _ {R Q : Type 0} (T : ReceiveTable R) (P : Pool Q) where
         go false b c = refl
 
     -- a good shape has good sizes
-    pub shape-sizes : (deskOf T P).shaped d ≡ true → Sized d.S (length d.owners)
-    shape-sizes e = sized d.S (length d.owners) (fitting T P d e).sizes
+    pub shape_sizes : (desk_of T P).shaped d ≡ true → Sized d.S (length d.owners)
+    shape_sizes e = sized d.S (length d.owners) (fitting T P d e).sizes
 
-    module _ {n : ℕ} (e : n ≡ tablesRefusal d) where
+    module _ {n : ℕ} (e : n ≡ tables_refusal d) where
       -- a number that the tables give is the desk's
-      pub tables-refused : (n ≡ 0 → ⊥) → n ≡ lentRefusal (deskOf T P) d
-      tables-refused given = number-first n (tablesRefusal d) (BadTable when not slotsGood) given e ∙ sym slots-last
+      pub tables_refused : (n ≡ 0 → ⊥) → n ≡ lent_refusal (desk_of T P) d
+      tables_refused given = number_first n (tables_refusal d) (BadTable when not slots_good) given e ∙ sym slots_last
 
       -- where they give none the slots decide
-      pub slots-decide : n ≡ 0 → {good : Bool} → good ≡ slotsGood → lentRefusal (deskOf T P) d ≡ BadTable when not good
-      slots-decide z {good} q = slots-last ∙ rw (sym e ∙ z, q)
+      pub slots_decide : n ≡ 0 → {good : Bool} → good ≡ slots_good → lent_refusal (desk_of T P) d ≡ BadTable when not good
+      slots_decide z {good} q = slots_last ∙ rw (sym e ∙ z, q)
 
       -- and the sizes are those of a desk
-      pub few-of-each : n ≡ 0 → (d.S ≤ 64) × (length d.owners ≤ 256)
-      few-of-each z =
-          let shape = when-not 0 (not ((deskOf T P).shaped d)) (or_else_none (BadShape when not ((deskOf T P).shaped d)) _ (sym e ∙ z)).0 in
-          let h = shape-sizes (not-false ((deskOf T P).shaped d) shape) in
-          (h.few-sites, h.few-pointers)
+      pub few_of_each : n ≡ 0 → (d.S ≤ 64) × (length d.owners ≤ 256)
+      few_of_each z =
+          let shape = when_not 0 (not ((desk_of T P).shaped d)) (or_else_none (BadShape when not ((desk_of T P).shaped d)) _ (sym e ∙ z)).0 in
+          let h = shape_sizes (not-false ((desk_of T P).shaped d) shape) in
+          (h.few_sites, h.few_pointers)

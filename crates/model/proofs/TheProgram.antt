@@ -12,85 +12,85 @@ use Rattle.model.specs.declared.Read.{Read}
 use Rattle.model.specs.declared.Read.TheVariants.{Said, Refused}
 use Rattle.model.specs.Refusals.{BadLine, ◌when◌}
 use Rattle.model.specs.Answers.{unless}
-use Rattle.model.specs.Calls.{openDesk}
+use Rattle.model.specs.Calls.{open_desk}
 use Rattle.model.specs.Tables.{Desk}
 use Rattle.model.specs.Flat.{flat}
-use Rattle.model.specs.Lines.{newline, digitsOf, readLine, lines_of}
-use Rattle.model.specs.Transcript.{answerBytes, answerLine, openingForm, sites_in, slotsIn, ownersIn, fresh, opening, obeyed, answers, deskBefore, answerLineAt, goesOn, session, transcript}
+use Rattle.model.specs.Lines.{newline, digits_of, read_line, lines_of}
+use Rattle.model.specs.Transcript.{answer_bytes, answer_line, opening_form, sites_in, slots_in, owners_in, fresh, opening, obeyed, answers, desk_before, answer_line_at, goes_on, session, transcript}
 use Rattle.model.specs.Demands.{begins, moves, Opened, Reached}
-use Rattle.model.proofs.SlotLaws.{five-bytes}
-use Rattle.model.proofs.DigitLaws.{digit-zero, length_digits}
-use Rattle.model.proofs.OpeningLaws.{opening-opens}
-use Rattle.model.proofs.Openings.{not-too-long}
+use Rattle.model.proofs.SlotLaws.{five_bytes}
+use Rattle.model.proofs.DigitLaws.{digit_zero, length_digits}
+use Rattle.model.proofs.OpeningLaws.{opening_opens}
+use Rattle.model.proofs.Openings.{not_too_long}
 
 -- ---- every desk of a session is reached
 -- an opening line that is accepted opens
-opened-by : (line : List ℕ) → (opening line).answer.number ≡ 0 → Opened flat (opening line).desk
+opened_by : (line : List ℕ) → (opening line).answer.number ≡ 0 → Opened flat (opening line).desk
 unfolding opening
-opened-by line e = go (openingForm line) e
+opened_by line e = go (opening_form line) e
   where
     d : Desk
-    d = fresh (sites_in line) (ownersIn line) (slotsIn line)
+    d = fresh (sites_in line) (owners_in line) (slots_in line)
 
-    go : (b : Bool) → (unless (BadLine when not b) (fresh 0 [] 0) (openDesk flat d)).answer.number ≡ 0
-        → Opened flat (unless (BadLine when not b) (fresh 0 [] 0) (openDesk flat d)).desk
-    go true e = opening-opens flat d e
+    go : (b : Bool) → (unless (BadLine when not b) (fresh 0 [] 0) (open_desk flat d)).answer.number ≡ 0
+        → Opened flat (unless (BadLine when not b) (fresh 0 [] 0) (open_desk flat d)).desk
+    go true e = opening_opens flat d e
     go false e = absurd (omega arith)
 
 -- what a line says is a call, or leaves the desk
-still-reached : {d : Desk} (read : Read) → Reached flat d → Reached flat (obeyed d read).desk
-still-reached (Said call) r = moves r call
-still-reached (Refused n) r = r
+still_reached : {d : Desk} (read : Read) → Reached flat d → Reached flat (obeyed d read).desk
+still_reached (Said call) r = moves r call
+still_reached (Refused n) r = r
 
-reached-before : {d : Desk} (lines : List (List ℕ)) (k : ℕ) → Reached flat d → Reached flat (deskBefore d lines k)
-unfolding deskBefore
-reached-before lines zero r = r
-reached-before [] (suc k) r = r
-reached-before (line ∷ lines) (suc k) r = reached-before lines k (still-reached (readLine line) r)
+reached_before : {d : Desk} (lines : List (List ℕ)) (k : ℕ) → Reached flat d → Reached flat (desk_before d lines k)
+unfolding desk_before
+reached_before lines zero r = r
+reached_before [] (suc k) r = r
+reached_before (line ∷ lines) (suc k) r = reached_before lines k (still_reached (read_line line) r)
 
 -- ---- each answer line has 17 characters, so line k is answered from k x 17 on
-answer-long : (a : Answer) → length (answerLine a) ≡ 17
-unfolding answerLine
-answer-long a = length-append (digitsOf (answerBytes a)) (newline ∷ []) ∙ omega (arith, length_digits (answerBytes a), five-bytes a.posted)
+answer_long : (a : Answer) → length (answer_line a) ≡ 17
+unfolding answer_line
+answer_long a = length-append (digits_of (answer_bytes a)) (newline ∷ []) ∙ omega (arith, length_digits (answer_bytes a), five_bytes a.posted)
 
 -- the digits 00 at its start are those of number 0
-pub accepted-digits : (a : Answer) → take 2 (answerLine a) ≡ digitsOf (0 ∷ []) → a.number ≡ 0
-unfolding answerLine digitsOf
-accepted-digits a e =
-    let high = digit-zero (a.number / 16) (ap (λ (text : List ℕ). get_or text 0 0) e) in
-    let low = digit-zero (a.number % 16) (ap (λ (text : List ℕ). get_or text 1 0) e) in
+pub accepted_digits : (a : Answer) → take 2 (answer_line a) ≡ digits_of (0 ∷ []) → a.number ≡ 0
+unfolding answer_line digits_of
+accepted_digits a e =
+    let high = digit_zero (a.number / 16) (ap (λ (text : List ℕ). get_or text 0 0) e) in
+    let low = digit_zero (a.number % 16) (ap (λ (text : List ℕ). get_or text 1 0) e) in
     omega arith
 
-first-line : (a : Answer) (rest : List ℕ) → take 17 (answerLine a ++ rest) ≡ answerLine a
-first-line a rest = ap (λ (n : ℕ). take n (answerLine a ++ rest)) (sym (answer-long a)) ∙ take-append_seam (answerLine a) rest
+first_line : (a : Answer) (rest : List ℕ) → take 17 (answer_line a ++ rest) ≡ answer_line a
+first_line a rest = ap (λ (n : ℕ). take n (answer_line a ++ rest)) (sym (answer_long a)) ∙ take-append_seam (answer_line a) rest
 
-later-lines : (a : Answer) (rest : List ℕ) (k : ℕ) → drop (suc k * 17) (answerLine a ++ rest) ≡ drop (k * 17) rest
-later-lines a rest k =
-    let n : suc k * 17 ≡ length (answerLine a) + k * 17 = omega (arith, answer-long a) in
-    ap (λ (n : ℕ). drop n (answerLine a ++ rest)) n ∙ drop-append-add (answerLine a) rest (k * 17)
+later_lines : (a : Answer) (rest : List ℕ) (k : ℕ) → drop (suc k * 17) (answer_line a ++ rest) ≡ drop (k * 17) rest
+later_lines a rest k =
+    let n : suc k * 17 ≡ length (answer_line a) + k * 17 = omega (arith, answer_long a) in
+    ap (λ (n : ℕ). drop n (answer_line a ++ rest)) n ∙ drop-append-add (answer_line a) rest (k * 17)
 
 answers_at : (d : Desk) (lines : List (List ℕ)) (k : ℕ) → k < length lines
-    → answerLineAt (answers d lines) k ≡ answerLine (obeyed (deskBefore d lines k) (readLine (get_or lines k []))).answer
-unfolding answers deskBefore
+    → answer_line_at (answers d lines) k ≡ answer_line (obeyed (desk_before d lines k) (read_line (get_or lines k []))).answer
+unfolding answers desk_before
 answers_at d [] k l = absurd (not-suc-le-zero l)
-answers_at d (line ∷ lines) zero l = first-line (obeyed d (readLine line)).answer _
+answers_at d (line ∷ lines) zero l = first_line (obeyed d (read_line line)).answer _
 answers_at d (line ∷ lines) (suc k) l =
-    ap (take 17) (later-lines (obeyed d (readLine line)).answer (answers (obeyed d (readLine line)).desk lines) k)
-    ∙ answers_at (obeyed d (readLine line)).desk lines k (le_of_suc-le-suc l)
+    ap (take 17) (later_lines (obeyed d (read_line line)).answer (answers (obeyed d (read_line line)).desk lines) k)
+    ∙ answers_at (obeyed d (read_line line)).desk lines k (le_of_suc-le-suc l)
 
 -- ---- an input of at most 8,192 bytes whose first line opens
 module _ (input opens : List ℕ) (lines : List (List ℕ)) (few : length input ≤ 8192) (read : lines_of input ≡ opens ∷ lines) (accepts : (opening opens).answer.number ≡ 0) where
-  whole : transcript input ≡ answerLine (opening opens).answer ++ answers (opening opens).desk lines
+  whole : transcript input ≡ answer_line (opening opens).answer ++ answers (opening opens).desk lines
   unfolding session
-  whole = not-too-long input few ∙ ap session read ∙ ap (λ (n : ℕ). answerLine (opening opens).answer ++ goesOn n (answers (opening opens).desk lines)) accepts
+  whole = not_too_long input few ∙ ap session read ∙ ap (λ (n : ℕ). answer_line (opening opens).answer ++ goes_on n (answers (opening opens).desk lines)) accepts
 
   -- Before every line the desk is a reached one.
-  pub desk-before-is-reached : (k : ℕ) → Reached flat (deskBefore (opening opens).desk lines k)
-  desk-before-is-reached k = reached-before lines k (begins (opened-by opens accepts))
+  pub desk_before_is_reached : (k : ℕ) → Reached flat (desk_before (opening opens).desk lines k)
+  desk_before_is_reached k = reached_before lines k (begins (opened_by opens accepts))
 
   -- Answer line k + 1 is that of what line k gives on that desk.
-  pub answer-line-of-line : (k : ℕ) → k < length lines
-      → answerLineAt (transcript input) (k + 1) ≡ answerLine (obeyed (deskBefore (opening opens).desk lines k) (readLine (get_or lines k []))).answer
-  answer-line-of-line k l =
+  pub answer_line_of_line : (k : ℕ) → k < length lines
+      → answer_line_at (transcript input) (k + 1) ≡ answer_line (obeyed (desk_before (opening opens).desk lines k) (read_line (get_or lines k []))).answer
+  answer_line_of_line k l =
       let n : k + 1 ≡ suc k = omega arith in
-      rw (n, whole) (ap (take 17) (later-lines (opening opens).answer (answers (opening opens).desk lines) k) ∙ answers_at (opening opens).desk lines k l)
+      rw (n, whole) (ap (take 17) (later_lines (opening opens).answer (answers (opening opens).desk lines) k) ∙ answers_at (opening opens).desk lines k l)

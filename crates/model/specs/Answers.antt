@@ -9,8 +9,8 @@ abbrev pub accepted : ℕ → Posted → Answer
 accepted value posted = record { number = 0; value = value; empty = 0; posted = posted }
 
 -- make copy and delete hand it on (Document 02, One)
-abbrev pub acceptedTelling : ℕ → ℕ → Posted → Answer
-acceptedTelling empty value posted = record { number = 0; value = value; empty = empty; posted = posted }
+abbrev pub accepted_telling : ℕ → ℕ → Posted → Answer
+accepted_telling empty value posted = record { number = 0; value = value; empty = empty; posted = posted }
 
 -- each refusal returns its number, value 0 and no message
 abbrev pub refused : ℕ → Answer

@@ -4,25 +4,25 @@ use Rattle.model.specs.Tables.{Desk, slots_of}
 
 -- ---- BadShape
 pub record Sized (s g : ℕ) : Type 0 where
-  pub some-site : 1 ≤ s
-  pub few-sites : s ≤ 64
-  pub few-pointers : g ≤ 256
+  pub some_site : 1 ≤ s
+  pub few_sites : s ≤ 64
+  pub few_pointers : g ≤ 256
 
 -- for slots of w bytes
 pub record Shaped (w s g sends receives pools : ℕ) : Type 0 where
   pub sizes : Sized s g
-  pub send-length : sends ≡ s * g
-  pub receive-length : receives ≡ s * g
-  pub whole-slots : pools % w ≡ 0
-  pub few-slots : pools / w ≤ 1024
+  pub send_length : sends ≡ s * g
+  pub receive_length : receives ≡ s * g
+  pub whole_slots : pools % w ≡ 0
+  pub few_slots : pools / w ≤ 1024
 
 -- ---- BadTable
 -- a slot, for S sites and G pointers: five zero bytes; a COPY or a DEC; an INC_DEC
 pub data GoodSlot (S G : ℕ) : ℕ → ℕ → ℕ → ℕ → ℕ → Type 0 where
-  no-message : GoodSlot S G 0 0 0 0 0
+  no_message : GoodSlot S G 0 0 0 0 0
   a_copy : {from to p : ℕ} → from < S → to < S → p < G → GoodSlot S G 1 from to 0 p
-  a-dec : {from to p : ℕ} → from < S → to < S → p < G → GoodSlot S G 2 from to 0 p
-  an-inc-dec : {from to third p : ℕ} → from < S → to < S → third < S → p < G → GoodSlot S G 3 from to third p
+  a_dec : {from to p : ℕ} → from < S → to < S → p < G → GoodSlot S G 2 from to 0 p
+  an_inc_dec : {from to third p : ℕ} → from < S → to < S → third < S → p < G → GoodSlot S G 3 from to third p
 
 -- every slot of w bytes is good in its first five
 abbrev pub GoodSlots : ℕ → ℕ → ℕ → List ℕ → Type 0

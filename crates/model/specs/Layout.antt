@@ -21,7 +21,7 @@ pub record Layout (D : Type 0) : Type 0 where
   pub early : D → ℕ → ℕ
   -- written: all by an opening; a counter; a receive cell; a slot; and what is noted of a slot's message when it is handled
   pub cleared : D → D
-  pub setCounter : D → ℕ → ℕ → ℕ → D
-  pub setCell : D → ℕ → ℕ → ℕ → D
+  pub set_counter : D → ℕ → ℕ → ℕ → D
+  pub set_cell : D → ℕ → ℕ → ℕ → D
   pub post : D → ℕ → Posted → D
   pub handled : D → ℕ → D

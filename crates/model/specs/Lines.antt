@@ -8,13 +8,13 @@ use Rattle.model.specs.declared.Read.{Read}
 use Rattle.model.specs.declared.Read.TheVariants.{Said, Refused}
 use Rattle.model.specs.declared.Next.{Next}
 use Rattle.model.specs.declared.Next.TheVariants.{Line, Ended}
-use Rattle.model.specs.Refusals.{BadShape, BadLine, UnknownCode, PrivateCode, ◌when◌, ◌orElse◌}
+use Rattle.model.specs.Refusals.{BadShape, BadLine, UnknownCode, PrivateCode, ◌when◌, ◌or_else◌}
 use Rattle.model.specs.Answers.{accepted, Outcome, unless}
 
 -- ---- digits
 -- the digit of a number below 16: 0 to 9 are the characters 48 to 57, A to F are 65 to 70
-abbrev pub digitOf : ℕ → ℕ
-digitOf n = cond (ltb n 10) (48 + n) (55 + n)
+abbrev pub digit_of : ℕ → ℕ
+digit_of n = cond (ltb n 10) (48 + n) (55 + n)
 
 -- the number of a digit; 16 for any other character, lower case among them
 unfoldable pub number_of : ℕ → ℕ
@@ -24,20 +24,20 @@ number_of c =
     16)
 
 -- bytes as digits, two a byte, the high one first
-unfoldable pub digitsOf : List ℕ → List ℕ
-digitsOf [] = []
-digitsOf (b ∷ bs) = digitOf (b / 16) ∷ digitOf (b % 16) ∷ digitsOf bs
+unfoldable pub digits_of : List ℕ → List ℕ
+digits_of [] = []
+digits_of (b ∷ bs) = digit_of (b / 16) ∷ digit_of (b % 16) ∷ digits_of bs
 
 -- the byte of two characters; 256 where one of them is no digit
 unfoldable pub byte_of : ℕ → ℕ → ℕ
 byte_of high low = cond (ltb (number_of high) 16 && ltb (number_of low) 16) (number_of high * 16 + number_of low) 256
 
 -- byte i of a line of digits
-abbrev pub byteAt : List ℕ → ℕ → ℕ
-byteAt line i = byte_of (get_or line (i * 2) 0) (get_or line (i * 2 + 1) 0)
+abbrev pub byte_at : List ℕ → ℕ → ℕ
+byte_at line i = byte_of (get_or line (i * 2) 0) (get_or line (i * 2 + 1) 0)
 
 abbrev pub is_byte : List ℕ → ℕ → Bool
-is_byte line i = ltb (byteAt line i) 256
+is_byte line i = ltb (byte_at line i) 256
 
 -- newline ends a line
 abbrev pub newline : ℕ
@@ -60,11 +60,11 @@ bytes_of (Ask site p) = code_of (Ask site p) ∷ site ∷ p ∷ 0 ∷ []
 
 -- eight digits and a newline
 unfoldable pub line_of : Call → List ℕ
-line_of call = digitsOf (bytes_of call) ++ (newline ∷ [])
+line_of call = digits_of (bytes_of call) ++ (newline ∷ [])
 
 -- a lent text that is too short gives 1 and nothing is written; memory past the written text stays as it was
-unfoldable pub writeCall : List ℕ → Call → Outcome (List ℕ)
-writeCall text call =
+unfoldable pub write_call : List ℕ → Call → Outcome (List ℕ)
+write_call text call =
     unless (BadShape when ltb (length text) 9) text
     (record { answer = accepted 0 Nothing; desk = sets text 0 (line_of call) })
 
@@ -78,31 +78,31 @@ call_of code a b c =
     (Ask a b)))
 
 -- tests in order: digits (14), code (15 for 00 and 05 to 7F, 16 for 80 to FF), last byte 00 for codes 02 to 04 (14)
-unfoldable pub lineRefusal : ℕ → ℕ → ℕ → ℕ → ℕ
-lineRefusal code a b c =
+unfoldable pub line_refusal : ℕ → ℕ → ℕ → ℕ → ℕ
+line_refusal code a b c =
     BadLine when not (ltb code 256 && ltb a 256 && ltb b 256 && ltb c 256)
     or_else UnknownCode when (eqb code 0 || leb 5 code && leb code 127)
     or_else PrivateCode when leb 128 code
     or_else BadLine when (leb 2 code && leb code 4 && not (eqb c 0))
 
-abbrev pub saidUnless : ℕ → Call → Read
-saidUnless zero call = Said call
-saidUnless (suc n) call = Refused (suc n)
+abbrev pub said_unless : ℕ → Call → Read
+said_unless zero call = Said call
+said_unless (suc n) call = Refused (suc n)
 
-abbrev pub readBytes : ℕ → ℕ → ℕ → ℕ → Read
-readBytes code a b c = saidUnless (lineRefusal code a b c) (call_of code a b c)
+abbrev pub read_bytes : ℕ → ℕ → ℕ → ℕ → Read
+read_bytes code a b c = said_unless (line_refusal code a b c) (call_of code a b c)
 
 -- eight characters (14), then the rest
-unfoldable pub readLine : List ℕ → Read
-readLine line =
+unfoldable pub read_line : List ℕ → Read
+read_line line =
     cond (eqb (length line) 8)
-    (readBytes (byteAt line 0) (byteAt line 1) (byteAt line 2) (byteAt line 3))
+    (read_bytes (byte_at line 0) (byte_at line 1) (byte_at line 2) (byte_at line 3))
     (Refused BadLine)
 
 -- the number of a line; 0 where it says a call
-abbrev pub refusalIn : Read → ℕ
-refusalIn (Said call) = 0
-refusalIn (Refused n) = n
+abbrev pub refusal_in : Read → ℕ
+refusal_in (Said call) = 0
+refusal_in (Refused n) = n
 
 -- ---- the lines of a text
 -- a character before the first line of what follows
@@ -135,4 +135,4 @@ past_at text at = cond (ltb (end_at text at) (length text)) (end_at text at + 1)
 
 -- at the end of the text, where no character is left, the reader has ended
 unfoldable pub next_at : List ℕ → ℕ → Next
-next_at text at = cond (ltb at (length text)) (Line (readLine (line_at text at)) (past_at text at)) Ended
+next_at text at = cond (ltb at (length text)) (Line (read_line (line_at text at)) (past_at text at)) Ended

@@ -1,6 +1,6 @@
 -- What lent memory means: a configuration of the published machine, over any layout.
 use Rattle.std.specs.Prelude.{ℕ, ◌&&◌, cond, ltb, eqb}
-use Rattle.moreau.specs.StateSpace.{Msg, COPY, DEC, INC-DEC, BagOf, ∅, ⟅◌⟆, Config}
+use Rattle.moreau.specs.StateSpace.{Msg, COPY, DEC, INC_DEC, BagOf, ∅, ⟅◌⟆, Config}
 use Rattle.model.specs.declared.Posted.{Posted}
 use Rattle.model.specs.declared.Posted.TheVariants.{Copy, Dec, IncDec, Nothing}
 use Rattle.model.specs.Questions.{total}
@@ -10,7 +10,7 @@ use Rattle.model.specs.Layout.{Layout}
 unfoldable pub meant : Posted → BagOf Msg
 meant (Copy from to p) = ⟅ COPY from to p ⟆
 meant (Dec from to p) = ⟅ DEC from to p ⟆
-meant (IncDec from to third p) = ⟅ INC-DEC from to p third ⟆
+meant (IncDec from to third p) = ⟅ INC_DEC from to p third ⟆
 meant Nothing = ∅
 
 -- a table of S sites and G pointers; outside it stands what the initial configuration has there
@@ -18,8 +18,8 @@ unfoldable pub within : {A : Type 0} → ℕ → ℕ → (ℕ → ℕ → A) →
 within S G table outside s p = cond (ltb s S && ltb p G) (table s p) (outside s p)
 
 -- counters, receive cells and n slots as a configuration
-unfoldable pub configOf : ℕ → ℕ → (ℕ → ℕ) → ℕ → (ℕ → ℕ → ℕ) → (ℕ → ℕ → ℕ) → (ℕ → Posted) → Config
-configOf S G owner n counters cells messages =
+unfoldable pub config_of : ℕ → ℕ → (ℕ → ℕ) → ℕ → (ℕ → ℕ → ℕ) → (ℕ → ℕ → ℕ) → (ℕ → Posted) → Config
+config_of S G owner n counters cells messages =
     record {
       sites = S;
       pointers = G;
@@ -30,4 +30,4 @@ configOf S G owner n counters cells messages =
     }
 
 abbrev pub meaning : {D : Type 0} → Layout D → D → Config
-meaning L d = configOf (L.sites d) (L.pointers d) (L.owner d) (L.slots d) (L.counter d) (L.cell d) (L.message d)
+meaning L d = config_of (L.sites d) (L.pointers d) (L.owner d) (L.slots d) (L.counter d) (L.cell d) (L.message d)

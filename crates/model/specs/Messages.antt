@@ -3,7 +3,7 @@ use Rattle.std.specs.Prelude.{ℕ, zero, suc, ◌+◌, ◌-◌, Bool, true, fals
 use Rattle.model.specs.declared.Posted.{Posted}
 use Rattle.model.specs.declared.Posted.TheVariants.{Copy, Dec, IncDec, Nothing}
 use Rattle.model.specs.declared.Effect.{Effect}
-use Rattle.model.specs.Refusals.{SameSite, CounterFull, CounterZero, ◌when◌, ◌orElse◌}
+use Rattle.model.specs.Refusals.{SameSite, CounterFull, CounterZero, ◌when◌, ◌or_else◌}
 
 -- Kinds: 0 empty, 1 COPY, 2 DEC, 3 INC_DEC
 abbrev pub kind_of : Posted → ℕ
@@ -20,19 +20,19 @@ slot_of (IncDec from to third p) = kind_of (IncDec from to third p) ∷ from ∷
 slot_of Nothing = kind_of Nothing ∷ 0 ∷ 0 ∷ 0 ∷ 0 ∷ []
 
 -- slot bytes as a message; a kind above 3 is none
-unfoldable pub messageOf : ℕ → ℕ → ℕ → ℕ → ℕ → Posted
-messageOf zero from to third p = Nothing
-messageOf (suc zero) from to third p = Copy from to p
-messageOf (suc (suc zero)) from to third p = Dec from to p
-messageOf (suc (suc (suc zero))) from to third p = IncDec from to third p
-messageOf (suc (suc (suc (suc kind)))) from to third p = Nothing
+unfoldable pub message_of : ℕ → ℕ → ℕ → ℕ → ℕ → Posted
+message_of zero from to third p = Nothing
+message_of (suc zero) from to third p = Copy from to p
+message_of (suc (suc zero)) from to third p = Dec from to p
+message_of (suc (suc (suc zero))) from to third p = IncDec from to third p
+message_of (suc (suc (suc (suc kind)))) from to third p = Nothing
 
 -- no message
-abbrev pub isNothing : Posted → Bool
-isNothing (Copy from to p) = false
-isNothing (Dec from to p) = false
-isNothing (IncDec from to third p) = false
-isNothing Nothing = true
+abbrev pub is_nothing : Posted → Bool
+is_nothing (Copy from to p) = false
+is_nothing (Dec from to p) = false
+is_nothing (IncDec from to third p) = false
+is_nothing Nothing = true
 
 -- the site it came from, the site that receives it, and its pointer
 abbrev pub sender : Posted → ℕ
@@ -47,32 +47,32 @@ receiver (Dec from to p) = to
 receiver (IncDec from to third p) = to
 receiver Nothing = 0
 
-abbrev pub pointerOf : Posted → ℕ
-pointerOf (Copy from to p) = p
-pointerOf (Dec from to p) = p
-pointerOf (IncDec from to third p) = p
-pointerOf Nothing = 0
+abbrev pub pointer_of : Posted → ℕ
+pointer_of (Copy from to p) = p
+pointer_of (Dec from to p) = p
+pointer_of (IncDec from to third p) = p
+pointer_of Nothing = 0
 
 -- its own refusals, of the receiver's counter: COPY 4, DEC 10, INC_DEC 6
-abbrev pub receiveRefusal : Posted → ℕ → ℕ
-receiveRefusal (Copy from to p) counter = SameSite when eqb from to
-receiveRefusal (Dec from to p) counter = CounterZero when eqb counter 0
-receiveRefusal (IncDec from to third p) counter = CounterFull when eqb counter 65535
-receiveRefusal Nothing counter = 0
+abbrev pub receive_refusal : Posted → ℕ → ℕ
+receive_refusal (Copy from to p) counter = SameSite when eqb from to
+receive_refusal (Dec from to p) counter = CounterZero when eqb counter 0
+receive_refusal (IncDec from to third p) counter = CounterFull when eqb counter 65535
+receive_refusal Nothing counter = 0
 
 -- INC_DEC(a, b, third c): b's counter rises by 1; DEC(a, b): b's counter falls by 1
-abbrev pub counterAfter : Posted → ℕ → ℕ
-counterAfter (Copy from to p) counter = counter
-counterAfter (Dec from to p) counter = counter - 1
-counterAfter (IncDec from to third p) counter = counter + 1
-counterAfter Nothing counter = counter
+abbrev pub counter_after : Posted → ℕ → ℕ
+counter_after (Copy from to p) counter = counter
+counter_after (Dec from to p) counter = counter - 1
+counter_after (IncDec from to third p) counter = counter + 1
+counter_after Nothing counter = counter
 
 -- COPY(a, b): b's receive cell is 1, or is set to 1
-abbrev pub cellAfter : Posted → ℕ → ℕ
-cellAfter (Copy from to p) cell = 1
-cellAfter (Dec from to p) cell = cell
-cellAfter (IncDec from to third p) cell = cell
-cellAfter Nothing cell = cell
+abbrev pub cell_after : Posted → ℕ → ℕ
+cell_after (Copy from to p) cell = 1
+cell_after (Dec from to p) cell = cell
+cell_after (IncDec from to third p) cell = cell
+cell_after Nothing cell = cell
 
 -- COPY(a, b): if b's cell is 1, post DEC(b, a); otherwise, where a is not the owner, post INC_DEC(b, owner, third a)
 -- INC_DEC(a, b, third c): post DEC(b, c)
@@ -83,17 +83,17 @@ reply (IncDec a b c p) cell owner = Dec b c p
 reply Nothing cell owner = Nothing
 
 -- what a receive decides, by its number: counter, cell and reply; after a refusal counter and cell stay, and nothing is posted
-abbrev pub effectUnless : ℕ → Posted → ℕ → ℕ → ℕ → Effect
-effectUnless zero m owner cell counter = record { number = 0; counter = counterAfter m counter; cell = cellAfter m cell; posted = reply m cell owner }
-effectUnless (suc n) m owner cell counter = record { number = suc n; counter = counter; cell = cell; posted = Nothing }
+abbrev pub effect_unless : ℕ → Posted → ℕ → ℕ → ℕ → Effect
+effect_unless zero m owner cell counter = record { number = 0; counter = counter_after m counter; cell = cell_after m cell; posted = reply m cell owner }
+effect_unless (suc n) m owner cell counter = record { number = suc n; counter = counter; cell = cell; posted = Nothing }
 
 -- of the message, the owner, the receiver's cell and counter, and the number of what comes too early; then the message's own
 abbrev pub decided : Posted → ℕ → ℕ → ℕ → ℕ → Effect
-decided m owner cell counter early = effectUnless (early or_else receiveRefusal m counter) m owner cell counter
+decided m owner cell counter early = effect_unless (early or_else receive_refusal m counter) m owner cell counter
 
 -- an INC_DEC from a to b for pointer p, with any third site
-abbrev pub isIncDec : ℕ → ℕ → ℕ → Posted → Bool
-isIncDec a b p (Copy from to q) = false
-isIncDec a b p (Dec from to q) = false
-isIncDec a b p (IncDec from to third q) = eqb from a && eqb to b && eqb q p
-isIncDec a b p Nothing = false
+abbrev pub is_inc_dec : ℕ → ℕ → ℕ → Posted → Bool
+is_inc_dec a b p (Copy from to q) = false
+is_inc_dec a b p (Dec from to q) = false
+is_inc_dec a b p (IncDec from to third q) = eqb from a && eqb to b && eqb q p
+is_inc_dec a b p Nothing = false

@@ -12,18 +12,18 @@ some zero P = false
 some (suc n) P = some n P || P n
 
 -- of how many numbers below n P holds
-unfoldable pub howMany : ℕ → (ℕ → Bool) → ℕ
-howMany zero P = 0
-howMany (suc n) P = howMany n P + cond (P n) 1 0
+unfoldable pub how_many : ℕ → (ℕ → Bool) → ℕ
+how_many zero P = 0
+how_many (suc n) P = how_many n P + cond (P n) 1 0
 
 -- the lowest of the n numbers from i on of which P holds; i + n where there is none
-unfoldable pub lowestFrom : ℕ → ℕ → (ℕ → Bool) → ℕ
-lowestFrom i zero P = i
-lowestFrom i (suc n) P = cond (P i) i (lowestFrom (i + 1) n P)
+unfoldable pub lowest_from : ℕ → ℕ → (ℕ → Bool) → ℕ
+lowest_from i zero P = i
+lowest_from i (suc n) P = cond (P i) i (lowest_from (i + 1) n P)
 
 -- the lowest number below n of which P holds; n where there is none
 abbrev pub lowest : ℕ → (ℕ → Bool) → ℕ
-lowest n P = lowestFrom 0 n P
+lowest n P = lowest_from 0 n P
 
 -- f 0 + .. + f (n - 1)
 unfoldable pub total : ℕ → (ℕ → ℕ) → ℕ

@@ -68,7 +68,7 @@ abbrev pub ◌when◌ : ℕ → Bool → ℕ
 n when b = cond b n 0
 
 -- the order of tests: the first number that is given; 0 where none is
-infixr 20 ◌orElse◌
-abbrev pub ◌orElse◌ : ℕ → ℕ → ℕ
+infixr 20 ◌or_else◌
+abbrev pub ◌or_else◌ : ℕ → ℕ → ℕ
 zero or_else n = n
 suc m or_else n = suc m

@@ -2,9 +2,9 @@
 use Rattle.std.specs.Prelude.{ℕ, zero, suc, ◌+◌, ◌*◌, ◌/◌, ◌%◌, Bool, ◌&&◌, not, cond, List, [], ◌++◌, map, leb, ltb, eqb, length, get_or}
 use Rattle.model.specs.declared.Posted.{Posted}
 use Rattle.model.specs.declared.Empties.{Empties}
-use Rattle.model.specs.Refusals.{BadShape, BadTable, ◌when◌, ◌orElse◌}
-use Rattle.model.specs.Questions.{every, howMany, lowest}
-use Rattle.model.specs.Messages.{messageOf}
+use Rattle.model.specs.Refusals.{BadShape, BadTable, ◌when◌, ◌or_else◌}
+use Rattle.model.specs.Questions.{every, how_many, lowest}
+use Rattle.model.specs.Messages.{message_of}
 
 -- S, owners, send table, receive table, pool; R and Q are the forms of the last two
 pub record Lent (R Q : Type 0) : Type 0 where
@@ -27,38 +27,38 @@ place g s p = s * g + p
 
 -- ---- shape: S, G, a length or the slot count
 -- S is 1 to 64, G is 0 to 256
-abbrev pub sizesGood : ℕ → ℕ → Bool
-sizesGood s g = leb 1 s && leb s 64 && leb g 256
+abbrev pub sizes_good : ℕ → ℕ → Bool
+sizes_good s g = leb 1 s && leb s 64 && leb g 256
 
 -- 0 to 1,024 slots of w bytes
-abbrev pub poolGood : ℕ → ℕ → Bool
-poolGood w pools = eqb (pools % w) 0 && leb (pools / w) 1024
+abbrev pub pool_good : ℕ → ℕ → Bool
+pool_good w pools = eqb (pools % w) 0 && leb (pools / w) 1024
 
 -- S x G counters, S x G bytes, slots of w bytes
-abbrev pub lengthsGood : ℕ → ℕ → ℕ → ℕ → ℕ → ℕ → Bool
-lengthsGood w s g sends receives pools = eqb sends (s * g) && eqb receives (s * g) && poolGood w pools
+abbrev pub lengths_good : ℕ → ℕ → ℕ → ℕ → ℕ → ℕ → Bool
+lengths_good w s g sends receives pools = eqb sends (s * g) && eqb receives (s * g) && pool_good w pools
 
 -- slots of 5 bytes
-abbrev pub shapeGood : ℕ → ℕ → ℕ → ℕ → ℕ → Bool
-shapeGood s g sends receives pools = sizesGood s g && lengthsGood 5 s g sends receives pools
+abbrev pub shape_good : ℕ → ℕ → ℕ → ℕ → ℕ → Bool
+shape_good s g sends receives pools = sizes_good s g && lengths_good 5 s g sends receives pools
 
 -- ---- table: an owner, a receive byte or a slot
 -- every byte is below n
-abbrev pub byteBelow : ℕ → List ℕ → ℕ → Bool
-byteBelow n bytes i = ltb (get_or bytes i 0) n
+abbrev pub byte_below : ℕ → List ℕ → ℕ → Bool
+byte_below n bytes i = ltb (get_or bytes i 0) n
 
 unfoldable pub all_below : ℕ → List ℕ → Bool
-all_below n bytes = every (length bytes) (byteBelow n bytes)
+all_below n bytes = every (length bytes) (byte_below n bytes)
 
 -- the first five bytes of slot i, where slots are w bytes wide, handed on: kind, from, to, third, pointer
-abbrev pub atSlot : {A : Type 0} → ℕ → (ℕ → ℕ → ℕ → ℕ → ℕ → A) → List ℕ → ℕ → A
-atSlot w f pool i =
+abbrev pub at_slot : {A : Type 0} → ℕ → (ℕ → ℕ → ℕ → ℕ → ℕ → A) → List ℕ → ℕ → A
+at_slot w f pool i =
     f (get_or pool (i * w) 0) (get_or pool (i * w + 1) 0) (get_or pool (i * w + 2) 0) (get_or pool (i * w + 3) 0) (get_or pool (i * w + 4) 0)
 
 -- an empty slot is five zero bytes; otherwise sites are below S, the pointer below G,
 -- and third is a site in an INC_DEC and 0 in a COPY or DEC
-abbrev pub slotGood : ℕ → ℕ → ℕ → ℕ → ℕ → ℕ → ℕ → Bool
-slotGood s g kind from to third p =
+abbrev pub slot_good : ℕ → ℕ → ℕ → ℕ → ℕ → ℕ → ℕ → Bool
+slot_good s g kind from to third p =
     cond (eqb kind 0)
     (eqb from 0 && eqb to 0 && eqb third 0 && eqb p 0)
     (leb kind 3 && ltb from s && ltb to s && cond (eqb kind 3) (ltb third s) (eqb third 0) && ltb p g)
@@ -67,23 +67,23 @@ slotGood s g kind from to third p =
 abbrev pub slots_of : ℕ → List ℕ → ℕ
 slots_of w pool = length pool / w
 
-unfoldable pub allSlotsGood : ℕ → ℕ → ℕ → List ℕ → Bool
-allSlotsGood w s g pool = every (slots_of w pool) (atSlot w (slotGood s g) pool)
+unfoldable pub all_slots_good : ℕ → ℕ → ℕ → List ℕ → Bool
+all_slots_good w s g pool = every (slots_of w pool) (at_slot w (slot_good s g) pool)
 
 -- ---- S and the owners alone, as the book takes them: 1, 2
-unfoldable pub ownersRefusal : ℕ → List ℕ → ℕ
-ownersRefusal s owners = BadShape when not (sizesGood s (length owners)) or_else BadTable when not (all_below s owners)
+unfoldable pub owners_refusal : ℕ → List ℕ → ℕ
+owners_refusal s owners = BadShape when not (sizes_good s (length owners)) or_else BadTable when not (all_below s owners)
 
 -- ---- slots of w bytes as messages
-abbrev pub messageAt : ℕ → List ℕ → ℕ → Posted
-messageAt w pool i = atSlot w messageOf pool i
+abbrev pub message_at : ℕ → List ℕ → ℕ → Posted
+message_at w pool i = at_slot w message_of pool i
 
 abbrev pub empty_at : ℕ → List ℕ → ℕ → Bool
 empty_at w pool i = eqb (get_or pool (i * w) 0) 0
 
 -- the search for the lowest empty slot, which also says how many are empty
 abbrev pub searched : ℕ → List ℕ → Empties
-searched w pool = record { slot = lowest (slots_of w pool) (empty_at w pool); count = howMany (slots_of w pool) (empty_at w pool) }
+searched w pool = record { slot = lowest (slots_of w pool) (empty_at w pool); count = how_many (slots_of w pool) (empty_at w pool) }
 
 -- ---- what an opening writes into the receive table
 -- the row of a site: 1 for each pointer that it owns, 0 for the others
@@ -91,6 +91,6 @@ abbrev pub own_row : ℕ → List ℕ → List ℕ
 own_row site owners = map (λ owner. 1 when eqb site owner) owners
 
 -- the rows of the sites below s, one after another
-unfoldable pub ownRows : ℕ → List ℕ → List ℕ
-ownRows zero owners = []
-ownRows (suc s) owners = ownRows s owners ++ own_row s owners
+unfoldable pub own_rows : ℕ → List ℕ → List ℕ
+own_rows zero owners = []
+own_rows (suc s) owners = own_rows s owners ++ own_row s owners

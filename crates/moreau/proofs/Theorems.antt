@@ -9,25 +9,25 @@ use Rattle.moreau.specs.Transitions.{Guard, WeakGuard, Reachable, ◌implies◌}
 use Rattle.moreau.specs.Claims.{Quiet}
 use Rattle.moreau.proofs.Messages.{formed}
 use Rattle.moreau.proofs.Reached.{sound}
-use Rattle.moreau.proofs.Quiet.{zero-iff-quiet, in-transit-counts}
+use Rattle.moreau.proofs.Quiet.{zero_iff_quiet, in_transit_counts}
 
 module _ {May : Guard} (i : May implies WeakGuard) {D : Config} (r : Reachable May D) (p : ℕ) (l : p < D.pointers) where
   -- The owner's counter is 0 exactly when no site but the owner holds GP and no message related to GP is in transit
-  pub owner-zero-iff-quiet : (D.send (D.owner p) p ≡ 0) ↔ Quiet D p
-  owner-zero-iff-quiet = zero-iff-quiet D (formed r) p l (sound i r p l)
+  pub owner_zero_iff_quiet : (D.send (D.owner p) p ≡ 0) ↔ Quiet D p
+  owner_zero_iff_quiet = zero_iff_quiet D (formed r) p l (sound i r p l)
 
   -- Theorem 6 (Safety): where a site other than the owner holds GP, the owner's counter is above 0
-  pub theorem-6 : (s : ℕ) → s < D.sites → s ≢ D.owner p → D.rec s p ≡ true → 0 < D.send (D.owner p) p
-  theorem-6 s k d h = go (D.send (D.owner p) p) refl
+  pub theorem_6 : (s : ℕ) → s < D.sites → s ≢ D.owner p → D.rec s p ≡ true → 0 < D.send (D.owner p) p
+  theorem_6 s k d h = go (D.send (D.owner p) p) refl
     where
       go : (n : ℕ) → D.send (D.owner p) p ≡ n → 0 < D.send (D.owner p) p
-      go zero e = absurd (true≢false (sym h ∙ (owner-zero-iff-quiet.0 e).no-holder s k d))
+      go zero e = absurd (true≢false (sym h ∙ (owner_zero_iff_quiet.0 e).no_holder s k d))
       go (suc n) e = omega arith
 
   -- While a message related to GP is in transit, the owner's counter is above 0
-  pub in-transit-above-zero : (m : Msg) → pointer m ≡ p → m ∈ D.pool → 0 < D.send (D.owner p) p
-  in-transit-above-zero = in-transit-counts D (formed r) p l (sound i r p l)
+  pub in_transit_above_zero : (m : Msg) → pointer m ≡ p → m ∈ D.pool → 0 < D.send (D.owner p) p
+  in_transit_above_zero = in_transit_counts D (formed r) p l (sound i r p l)
 
   -- Theorem 9 (GC Liveness): where no site but the owner holds GP, and no message related to GP is in transit, the owner's counter is 0
-  pub theorem-9 : Quiet D p → D.send (D.owner p) p ≡ 0
-  theorem-9 = owner-zero-iff-quiet.1
+  pub theorem_9 : Quiet D p → D.send (D.owner p) p ≡ 0
+  theorem_9 = owner_zero_iff_quiet.1

@@ -1,13 +1,13 @@
 // The lowest empty slot of seven bytes, and with it how many slots are empty (Document 01, The calls; Document 02, One).
 ghost use Rattle.std.specs.Prelude.{◌≡◌, ◌-◌, ◌≤◌};
-ghost use Rattle.model.specs.Questions.{howMany, lowestFrom, lowest};
+ghost use Rattle.model.specs.Questions.{how_many, lowest_from, lowest};
 ghost use Rattle.model.specs.Tables.{slots_of, empty_at, searched};
 
 use model::Empties;
 
 // The lowest empty slot from a place on, where none before it is empty, one by one.
 fn lowest_from(pool: &[u8], from: usize) -> usize
-    requires { (from ≤ slots_of 7 pool.now) × (lowestFrom from (slots_of 7 pool.now - from) (empty_at 7 pool.now) ≡ lowest (slots_of 7 pool.now) (empty_at 7 pool.now)) }
+    requires { (from ≤ slots_of 7 pool.now) × (lowest_from from (slots_of 7 pool.now - from) (empty_at 7 pool.now) ≡ lowest (slots_of 7 pool.now) (empty_at 7 pool.now)) }
     ensures { result ≡ lowest (slots_of 7 pool.now) (empty_at 7 pool.now) }
 {
     let n = pool.len() / 7;
@@ -48,7 +48,7 @@ fn lowest_empty(pool: &[u8]) -> usize
 
 // The search: the lowest empty slot, and how many are empty, which the test of the slots has counted.
 pub fn search(pool: &[u8], count: usize) -> Empties
-    requires { count ≡ howMany (slots_of 7 pool.now) (empty_at 7 pool.now) }
+    requires { count ≡ how_many (slots_of 7 pool.now) (empty_at 7 pool.now) }
     ensures { result ≡ searched 7 pool.now }
 {
     let slot = lowest_empty(pool);

@@ -1,8 +1,8 @@
 // The next numbers of the ordered pairs of sites, pair (a, b) at a x S + b (Document 02, Three).
 ghost use Rattle.std.specs.Prelude.{◌≡◌, ◌<◌, false, length};
 ghost use Rattle.model.specs.Tables.{place};
-ghost use Rattle.model.specs.Messages.{isNothing, sender as senderOf, receiver as receiverOf};
-ghost use Rattle.in_order.specs.Ordered.{next as next_of, numberFor, advanced};
+ghost use Rattle.model.specs.Messages.{is_nothing, sender as sender_of, receiver as receiver_of};
+ghost use Rattle.in_order.specs.Ordered.{next as next_of, number_for, advanced};
 
 use model::Posted;
 use rules::message::{is_nothing, receiver, sender};
@@ -11,7 +11,7 @@ use tables::place::place_of;
 
 // Where the number of a message's pair stands.
 pub fn pair_of(s: u8, m: Posted) -> usize
-    ensures { result ≡ place s (senderOf m) (receiverOf m) }
+    ensures { result ≡ place s (sender_of m) (receiver_of m) }
 {
     let from = sender(m);
     let to = receiver(m);
@@ -27,8 +27,8 @@ fn next(n: u16) -> u16
 
 // The number that is stored with a message: its pair's; zero where there is none.
 pub fn number_for(s: u8, numbers: &[u16], m: Posted) -> u16
-    requires { isNothing m ≡ false → place s (senderOf m) (receiverOf m) < length numbers.now }
-    ensures { result ≡ numberFor s numbers.now m }
+    requires { is_nothing m ≡ false → place s (sender_of m) (receiver_of m) < length numbers.now }
+    ensures { result ≡ number_for s numbers.now m }
 {
     if is_nothing(m) {
         return 0;
@@ -38,7 +38,7 @@ pub fn number_for(s: u8, numbers: &[u16], m: Posted) -> u16
 
 // A message advances its pair's number; none advances nothing.
 pub fn advance(s: u8, numbers: &mut [u16], m: Posted)
-    requires { isNothing m ≡ false → place s (senderOf m) (receiverOf m) < length numbers.old }
+    requires { is_nothing m ≡ false → place s (sender_of m) (receiver_of m) < length numbers.old }
     ensures { numbers.new ≡ advanced s numbers.old m }
 {
     if is_nothing(m) {

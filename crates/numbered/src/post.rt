@@ -2,8 +2,8 @@
 ghost use Rattle.std.specs.Prelude.{◌≡◌, ◌+◌, ◌*◌, ◌<◌, ◌≤◌, false, length};
 ghost use Rattle.std.proofs.lemmas.List.Edits.{sets};
 ghost use Rattle.model.specs.Tables.{place};
-ghost use Rattle.model.specs.Messages.{isNothing, sender, receiver};
-ghost use Rattle.in_order.specs.Ordered.{numberedSlot, numberFor, advanced};
+ghost use Rattle.model.specs.Messages.{is_nothing, sender, receiver};
+ghost use Rattle.in_order.specs.Ordered.{numbered_slot, number_for, advanced};
 
 use crate::pairs::{advance, number_for};
 use crate::slot::write_slot;
@@ -12,8 +12,8 @@ use model::Posted;
 // A message into a slot, with its pair's next number to post, which advances; none makes the slot empty.
 pub fn post(s: u8, pool: &mut [u8], numbers: &mut [u16], slot: usize, m: Posted)
     requires slot_in_bounds { slot * 7 + 7 ≤ length pool.old }
-    requires m_in_bounds { isNothing m ≡ false → place s (sender m) (receiver m) < length numbers.old }
-    ensures pool_after { pool.new ≡ sets pool.old (slot * 7) (numberedSlot m (numberFor s numbers.old m)) }
+    requires m_in_bounds { is_nothing m ≡ false → place s (sender m) (receiver m) < length numbers.old }
+    ensures pool_after { pool.new ≡ sets pool.old (slot * 7) (numbered_slot m (number_for s numbers.old m)) }
     ensures numbers_after { numbers.new ≡ advanced s numbers.old m }
 {
     let number = number_for(s, &numbers[..], m);

@@ -1,8 +1,8 @@
 // Slots of seven bytes: the five of a message, then its number, high byte first (Document 02, Three).
 ghost use Rattle.std.specs.Prelude.{◌≡◌, ◌+◌, ◌*◌, ◌≤◌, [], ◌∷◌, length};
 ghost use Rattle.std.proofs.lemmas.List.Edits.{sets};
-ghost use Rattle.model.specs.Tables.{messageAt};
-ghost use Rattle.in_order.specs.Ordered.{number_at, numberedSlot};
+ghost use Rattle.model.specs.Tables.{message_at};
+ghost use Rattle.in_order.specs.Ordered.{number_at, numbered_slot};
 
 use model::Posted;
 use rules::message::slot_bytes;
@@ -11,7 +11,7 @@ use slots::slot::message_of;
 // The message of a slot of the pool.
 pub fn read_slot(pool: &[u8], slot: usize) -> Posted
     requires { slot * 7 + 7 ≤ length pool.now }
-    ensures { result ≡ messageAt 7 pool.now slot }
+    ensures { result ≡ message_at 7 pool.now slot }
 {
     let at = slot * 7;
     message_of(
@@ -67,7 +67,7 @@ fn write_bytes(
 // A message and its number into a slot of the pool; no message and 0 make the slot empty.
 pub fn write_slot(pool: &mut [u8], slot: usize, message: Posted, number: u16)
     requires { slot * 7 + 7 ≤ length pool.old }
-    ensures { pool.new ≡ sets pool.old (slot * 7) (numberedSlot message number) }
+    ensures { pool.new ≡ sets pool.old (slot * 7) (numbered_slot message number) }
 {
     let bytes = slot_bytes(message);
     let kind = bytes[0];

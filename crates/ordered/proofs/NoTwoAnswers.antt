@@ -3,28 +3,28 @@ use Prim.Native.Nat.{ℕ}
 use mathlib.Core.Path.{◌≡◌}
 use mathlib.Core.List.{List}
 use Rattle.model.specs.declared.Share.{Share}
-use Rattle.model.specs.Survey.{share as share_of, sheetNumber, sheet as sheetOf}
-use Rattle.in_order.specs.Ordered.{lentInOrder, ordered}
+use Rattle.model.specs.Survey.{share as share_of, sheet_number, sheet as sheet_of}
+use Rattle.in_order.specs.Ordered.{lent_in_order, ordered}
 use Rattle.model.proofs.OneOutcome.{one_answer}
 
 module _ (s : ℕ) (owners send receive pool posts takes : List ℕ) where
   -- what `share::share` promises
   abbrev pub SharePromise : ℕ → ℕ → Share → Type 0
-  SharePromise site pointer r = r ≡ share_of ordered (lentInOrder s owners send receive pool posts takes) site pointer
+  SharePromise site pointer r = r ≡ share_of ordered (lent_in_order s owners send receive pool posts takes) site pointer
 
-  pub no-two-shares : (site pointer : ℕ) {r q : Share} → SharePromise site pointer r → SharePromise site pointer q → r ≡ q
-  no-two-shares site pointer e f = one_answer e f
+  pub no_two_shares : (site pointer : ℕ) {r q : Share} → SharePromise site pointer r → SharePromise site pointer q → r ≡ q
+  no_two_shares site pointer e f = one_answer e f
 
   -- what `sheet::sheet_number` promises
   abbrev pub SheetNumberPromise : ℕ → ℕ → Type 0
-  SheetNumberPromise pointer r = r ≡ sheetNumber ordered (lentInOrder s owners send receive pool posts takes) pointer
+  SheetNumberPromise pointer r = r ≡ sheet_number ordered (lent_in_order s owners send receive pool posts takes) pointer
 
-  pub no-two-sheet-numbers : (pointer : ℕ) {r q : ℕ} → SheetNumberPromise pointer r → SheetNumberPromise pointer q → r ≡ q
-  no-two-sheet-numbers pointer e f = one_answer e f
+  pub no_two_sheet_numbers : (pointer : ℕ) {r q : ℕ} → SheetNumberPromise pointer r → SheetNumberPromise pointer q → r ≡ q
+  no_two_sheet_numbers pointer e f = one_answer e f
 
   -- what `sheet::sheet_by` promises
   abbrev pub SheetPromise : ℕ → List (List ℕ) → Type 0
-  SheetPromise pointer r = r ≡ sheetOf ordered (lentInOrder s owners send receive pool posts takes) pointer
+  SheetPromise pointer r = r ≡ sheet_of ordered (lent_in_order s owners send receive pool posts takes) pointer
 
-  pub no-two-sheets : (pointer : ℕ) {r q : List (List ℕ)} → SheetPromise pointer r → SheetPromise pointer q → r ≡ q
-  no-two-sheets pointer e f = one_answer e f
+  pub no_two_sheets : (pointer : ℕ) {r q : List (List ℕ)} → SheetPromise pointer r → SheetPromise pointer q → r ≡ q
+  no_two_sheets pointer e f = one_answer e f

@@ -7,14 +7,14 @@ use lib.ListN.{get_or}
 use lib.Signed.{◌≤ℤ◌}
 use Rattle.model.specs.Survey.{share, sheet}
 use Rattle.in_order.specs.Ordered.{OrderedDesk, ordered}
-use Rattle.in_order.proofs.OrderedLaws.{ordered-laws}
-use Rattle.slots.proofs.ShareRange.{share-between}
-use Rattle.slots.proofs.SheetColumns.{column-above-sites}
+use Rattle.in_order.proofs.OrderedLaws.{ordered_laws}
+use Rattle.slots.proofs.ShareRange.{share_between}
+use Rattle.slots.proofs.SheetColumns.{column_above_sites}
 
 -- The share that the in-order desk answers lies from minus 1,024 to 1,025, for all lent tables, all sites and all pointers.
-pub share-from-minus-1024-to-1025 : (d : OrderedDesk) (site p : ℕ) → (negsuc 1023 ≤ℤ (share ordered d site p).share) × ((share ordered d site p).share ≤ℤ pos 1025)
-share-from-minus-1024-to-1025 = share-between ordered ordered-laws
+pub share_from_minus_1024_to_1025 : (d : OrderedDesk) (site p : ℕ) → (negsuc 1023 ≤ℤ (share ordered d site p).share) × ((share ordered d site p).share ≤ℤ pos 1025)
+share_from_minus_1024_to_1025 = share_between ordered ordered_laws
 
 -- Of the in-order desk: every column at or above S is 0, in every row, for all lent tables and all pointers.
-pub columns-above-sites-0 : (d : OrderedDesk) (p row site : ℕ) → row < 3 → site < 64 → d.S ≤ site → get_or (get_or (sheet ordered d p) row []) site 0 ≡ 0
-columns-above-sites-0 d p row site lr ls = column-above-sites ordered d p row site lr ls ordered-laws
+pub columns_above_sites_0 : (d : OrderedDesk) (p row site : ℕ) → row < 3 → site < 64 → d.S ≤ site → get_or (get_or (sheet ordered d p) row []) site 0 ≡ 0
+columns_above_sites_0 d p row site lr ls = column_above_sites ordered d p row site lr ls ordered_laws

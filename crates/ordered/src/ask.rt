@@ -1,7 +1,7 @@
 // Ask (Document 02, Three).
 ghost use Rattle.std.specs.Prelude.{◌≡◌};
-ghost use Rattle.model.specs.Calls.{ask as askOf};
-ghost use Rattle.in_order.specs.Ordered.{lentInOrder, ordered};
+ghost use Rattle.model.specs.Calls.{ask as ask_of};
+ghost use Rattle.in_order.specs.Ordered.{lent_in_order, ordered};
 
 use crate::front::front;
 use model::{Answer, Posted};
@@ -20,8 +20,8 @@ pub fn ask(
     site: u8,
     pointer: u8,
 ) -> Answer
-    ensures { record { answer = result; desk = lentInOrder s owners.now send.now receive.now pool.now posts.now takes.now }
-        ≡ askOf ordered (lentInOrder s owners.now send.now receive.now pool.now posts.now takes.now) site pointer }
+    ensures { record { answer = result; desk = lent_in_order s owners.now send.now receive.now pool.now posts.now takes.now }
+        ≡ ask_of ordered (lent_in_order s owners.now send.now receive.now pool.now posts.now takes.now) site pointer }
 {
     let p = pointer as usize;
     let named = (site < s) & (p < owners.len());

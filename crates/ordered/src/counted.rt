@@ -1,10 +1,10 @@
 // The tests that begin a make copy and a delete, and how many slots are empty (Document 02, One and Three).
 ghost use Rattle.std.specs.Prelude.{◌≡◌, eqb};
 ghost use Rattle.model.specs.Refusals.{◌when◌};
-ghost use Rattle.model.specs.Questions.{howMany};
+ghost use Rattle.model.specs.Questions.{how_many};
 ghost use Rattle.model.specs.Tables.{slots_of, empty_at};
-ghost use Rattle.model.specs.Calls.{front as frontOf};
-ghost use Rattle.in_order.specs.Ordered.{lentInOrder, ordered};
+ghost use Rattle.model.specs.Calls.{front as front_of};
+ghost use Rattle.in_order.specs.Ordered.{lent_in_order, ordered};
 
 use crate::shape::shape_good;
 use scan::bytes::{all_below, all_bits};
@@ -35,8 +35,8 @@ pub fn counted_front(
     takes: &[u16],
     named: bool,
 ) -> Front
-    ensures number_value { result.number ≡ frontOf ordered (lentInOrder s owners.now send.now receive.now pool.now posts.now takes.now) named }
-    ensures empties_value { result.empties ≡ howMany (slots_of 7 pool.now) (empty_at 7 pool.now) when eqb result.number 0 }
+    ensures number_value { result.number ≡ front_of ordered (lent_in_order s owners.now send.now receive.now pool.now posts.now takes.now) named }
+    ensures empties_value { result.empties ≡ how_many (slots_of 7 pool.now) (empty_at 7 pool.now) when eqb result.number 0 }
 {
     let g = owners.len();
     if !shape_good(

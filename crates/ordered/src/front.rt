@@ -1,9 +1,9 @@
 // The tests that begin every call and every question: 1, 2, 3; and a receive: 8 (Document 02, Three).
 ghost use Rattle.std.specs.Prelude.{◌≡◌, ltb};
-ghost use Rattle.model.specs.Refusals.{EmptySlot, ◌when◌, ◌orElse◌};
+ghost use Rattle.model.specs.Refusals.{EmptySlot, ◌when◌, ◌or_else◌};
 ghost use Rattle.model.specs.Tables.{slots_of, empty_at};
-ghost use Rattle.model.specs.Calls.{front as frontOf};
-ghost use Rattle.in_order.specs.Ordered.{lentInOrder, ordered};
+ghost use Rattle.model.specs.Calls.{front as front_of};
+ghost use Rattle.in_order.specs.Ordered.{lent_in_order, ordered};
 
 use crate::lent::lent_refusal;
 
@@ -18,7 +18,7 @@ pub fn front(
     takes: &[u16],
     named: bool,
 ) -> u8
-    ensures { result ≡ frontOf ordered (lentInOrder s owners.now send.now receive.now pool.now posts.now takes.now) named }
+    ensures { result ≡ front_of ordered (lent_in_order s owners.now send.now receive.now pool.now posts.now takes.now) named }
 {
     let n = lent_refusal(s, owners, send, receive, pool, posts, takes);
     if n != 0 {
@@ -41,7 +41,7 @@ pub fn slot_refusal(
     takes: &[u16],
     slot: u16,
 ) -> u8
-    ensures { result ≡ frontOf ordered (lentInOrder s owners.now send.now receive.now pool.now posts.now takes.now) (ltb slot (slots_of 7 pool.now))
+    ensures { result ≡ front_of ordered (lent_in_order s owners.now send.now receive.now pool.now posts.now takes.now) (ltb slot (slots_of 7 pool.now))
         or_else EmptySlot when empty_at 7 pool.now slot }
 {
     let i = slot as usize;

@@ -1,7 +1,7 @@
 // The numbers 1 and 2 of what is lent (Document 02, Three).
 ghost use Rattle.std.specs.Prelude.{◌≡◌};
-ghost use Rattle.model.specs.Calls.{lentRefusal};
-ghost use Rattle.in_order.specs.Ordered.{lentInOrder, ordered};
+ghost use Rattle.model.specs.Calls.{lent_refusal};
+ghost use Rattle.in_order.specs.Ordered.{lent_in_order, ordered};
 
 use crate::shape::shape_good;
 use scan::bytes::{all_below, all_bits};
@@ -17,7 +17,7 @@ pub fn lent_refusal(
     posts: &[u16],
     takes: &[u16],
 ) -> u8
-    ensures { result ≡ lentRefusal ordered (lentInOrder s owners.now send.now receive.now pool.now posts.now takes.now) }
+    ensures { result ≡ lent_refusal ordered (lent_in_order s owners.now send.now receive.now pool.now posts.now takes.now) }
 {
     let g = owners.len();
     if !shape_good(

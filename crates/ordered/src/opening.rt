@@ -1,7 +1,7 @@
 // Opening (Document 02, Three).
 ghost use Rattle.std.specs.Prelude.{◌≡◌};
-ghost use Rattle.model.specs.Calls.{openDesk};
-ghost use Rattle.in_order.specs.Ordered.{lentInOrder, ordered};
+ghost use Rattle.model.specs.Calls.{open_desk};
+ghost use Rattle.in_order.specs.Ordered.{lent_in_order, ordered};
 
 use crate::shape::shape_good;
 use model::{Answer, Posted};
@@ -20,8 +20,8 @@ pub fn open_desk(
     posts: &mut [u16],
     takes: &mut [u16],
 ) -> Answer
-    ensures { record { answer = result; desk = lentInOrder s owners.now send.new receive.new pool.new posts.new takes.new }
-        ≡ openDesk ordered (lentInOrder s owners.now send.old receive.old pool.old posts.old takes.old) }
+    ensures { record { answer = result; desk = lent_in_order s owners.now send.new receive.new pool.new posts.new takes.new }
+        ≡ open_desk ordered (lent_in_order s owners.now send.old receive.old pool.old posts.old takes.old) }
 {
     if !shape_good(
         s,

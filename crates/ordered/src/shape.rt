@@ -1,6 +1,6 @@
 // BadShape: S, G, a length or the slot count (Document 02, Three).
 ghost use Rattle.std.specs.Prelude.{◌≡◌, ◌&&◌, ◌*◌, eqb};
-ghost use Rattle.model.specs.Tables.{sizesGood, poolGood};
+ghost use Rattle.model.specs.Tables.{sizes_good, pool_good};
 
 use tables::shape::sizes_good;
 
@@ -14,8 +14,8 @@ pub fn shape_good(
     posts: usize,
     takes: usize,
 ) -> bool
-    ensures { result ≡ (sizesGood s g
-        && (eqb sends (s * g) && eqb receives (s * g) && (poolGood 7 pools && eqb posts (s * s) && eqb takes (s * s)))) }
+    ensures { result ≡ (sizes_good s g
+        && (eqb sends (s * g) && eqb receives (s * g) && (pool_good 7 pools && eqb posts (s * s) && eqb takes (s * s)))) }
 {
     if !sizes_good(s, g) {
         return false;

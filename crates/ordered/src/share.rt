@@ -1,7 +1,7 @@
 // The share of a site (Document 01, Share and sheet; Document 02, Three).
 ghost use Rattle.std.specs.Prelude.{◌≡◌};
-ghost use Rattle.in_order.specs.Ordered.{lentInOrder, ordered};
-ghost use Rattle.model.specs.Survey.{shareNumber, share as share_of};
+ghost use Rattle.in_order.specs.Ordered.{lent_in_order, ordered};
+ghost use Rattle.model.specs.Survey.{share_number, share as share_of};
 
 use crate::front::front;
 use model::Share;
@@ -21,7 +21,7 @@ fn share_number(
     site: u8,
     pointer: u8,
 ) -> u8
-    ensures { result ≡ shareNumber ordered (lentInOrder s owners.now send.now receive.now pool.now posts.now takes.now) site pointer }
+    ensures { result ≡ share_number ordered (lent_in_order s owners.now send.now receive.now pool.now posts.now takes.now) site pointer }
 {
     let p = pointer as usize;
     let n = front(
@@ -55,7 +55,7 @@ pub fn share(
     site: u8,
     pointer: u8,
 ) -> Share
-    ensures { result ≡ share_of ordered (lentInOrder s owners.now send.now receive.now pool.now posts.now takes.now) site pointer }
+    ensures { result ≡ share_of ordered (lent_in_order s owners.now send.now receive.now pool.now posts.now takes.now) site pointer }
 {
     let n = share_number(s, owners, send, receive, pool, posts, takes, site, pointer);
     if n != 0 {

@@ -1,7 +1,7 @@
 // The sheet of a pointer (Document 01, Share and sheet; Document 02, Three).
 ghost use Rattle.std.specs.Prelude.{◌≡◌};
-ghost use Rattle.in_order.specs.Ordered.{lentInOrder, ordered};
-ghost use Rattle.model.specs.Survey.{sheetNumber, sheet as sheetOf};
+ghost use Rattle.in_order.specs.Ordered.{lent_in_order, ordered};
+ghost use Rattle.model.specs.Survey.{sheet_number, sheet as sheet_of};
 
 use crate::front::front;
 use numbered::entries::entries;
@@ -18,7 +18,7 @@ pub fn sheet_number(
     takes: &[u16],
     pointer: u8,
 ) -> u8
-    ensures { result ≡ sheetNumber ordered (lentInOrder s owners.now send.now receive.now pool.now posts.now takes.now) pointer }
+    ensures { result ≡ sheet_number ordered (lent_in_order s owners.now send.now receive.now pool.now posts.now takes.now) pointer }
 {
     front(
         s,
@@ -44,8 +44,8 @@ pub fn sheet_by(
     takes: &[u16],
     pointer: u8,
 ) -> [[u32; 64]; 3]
-    requires { number ≡ sheetNumber ordered (lentInOrder s owners.now send.now receive.now pool.now posts.now takes.now) pointer }
-    ensures { result ≡ sheetOf ordered (lentInOrder s owners.now send.now receive.now pool.now posts.now takes.now) pointer }
+    requires { number ≡ sheet_number ordered (lent_in_order s owners.now send.now receive.now pool.now posts.now takes.now) pointer }
+    ensures { result ≡ sheet_of ordered (lent_in_order s owners.now send.now receive.now pool.now posts.now takes.now) pointer }
 {
     if number != 0 {
         return blank();

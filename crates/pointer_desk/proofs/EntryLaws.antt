@@ -6,13 +6,13 @@ use native.Mathlib.Omega.{arith}
 use lib.ListN.{length}
 use borrow.Author.Tests.{ne_eqb}
 use Rattle.book.specs.Part.{Part}
-use Rattle.book.specs.Book.{entry_at, lengthByte, addressNumber, addressPart}
-use Rattle.book.specs.Walk.{entryPlace}
-use Rattle.book.proofs.EntryLaws.{address-long}
-use Rattle.book.proofs.RefusalLaws.{book-passes, address-passes, place-given}
+use Rattle.book.specs.Book.{entry_at, length_byte, address_number, address_part}
+use Rattle.book.specs.Walk.{entry_place}
+use Rattle.book.proofs.EntryLaws.{address_long}
+use Rattle.book.proofs.RefusalLaws.{book_passes, address_passes, place_given}
 use Rattle.book.proofs.AddressLaws.{place_inside}
-use Rattle.book.proofs.Handed.{handed-address, handed-some, handed-none}
-use Rattle.pointer_desk.specs.Boundary.{partGiven}
+use Rattle.book.proofs.Handed.{handed_address, handed_some, handed_none}
+use Rattle.pointer_desk.specs.Boundary.{part_given}
 
 -- a part of length 0 has no bytes
 no_bytes : (l : List ℕ) → length l ≡ 0 → l ≡ []
@@ -20,39 +20,39 @@ no_bytes [] e = refl
 no_bytes (x ∷ l) e = absurd (omega arith)
 
 -- over the part that is handed out
-module _ (s : ℕ) (owners : List ℕ) (book : Part) (p : ℕ) {part : Part} (e : part ≡ addressPart s owners book p) where
-  its-bytes : part.bytes ≡ (addressPart s owners book p).bytes
-  its-bytes = ap (λ (x : Part). x.bytes) e
+module _ (s : ℕ) (owners : List ℕ) (book : Part) (p : ℕ) {part : Part} (e : part ≡ address_part s owners book p) where
+  its_bytes : part.bytes ≡ (address_part s owners book p).bytes
+  its_bytes = ap (λ (x : Part). x.bytes) e
 
   -- it is empty: the question was refused
-  pub part-refused : {n : ℕ} → length part.bytes ≡ 0 → n ≡ addressNumber s owners book.bytes p → record { number = n; at = 0; length = 0 } ≡ partGiven s owners book.bytes p
-  unfolding partGiven
-  part-refused {n} none f =
-      rw (← f, ne_eqb n 0 (λ z. handed-some s owners book p (sym f ∙ z) (sym its-bytes ∙ no_bytes part.bytes none))) refl
+  pub part_refused : {n : ℕ} → length part.bytes ≡ 0 → n ≡ address_number s owners book.bytes p → record { number = n; at = 0; length = 0 } ≡ part_given s owners book.bytes p
+  unfolding part_given
+  part_refused {n} none f =
+      rw (← f, ne_eqb n 0 (λ z. handed_some s owners book p (sym f ∙ z) (sym its_bytes ∙ no_bytes part.bytes none))) refl
 
   -- it is not: the question passed, and the address stands behind the entry's length byte
   module _ (some : length part.bytes ≡ 0 → ⊥) where
-    passed : addressNumber s owners book.bytes p ≡ 0
-    passed = go (addressNumber s owners book.bytes p) refl
+    passed : address_number s owners book.bytes p ≡ 0
+    passed = go (address_number s owners book.bytes p) refl
       where
-        go : (n : ℕ) → addressNumber s owners book.bytes p ≡ n → addressNumber s owners book.bytes p ≡ 0
+        go : (n : ℕ) → address_number s owners book.bytes p ≡ n → address_number s owners book.bytes p ≡ 0
         go zero q = q
-        go (suc n) q = absurd (some (ap length (its-bytes ∙ handed-none s owners book p (λ z. absurd (omega arith)))))
+        go (suc n) q = absurd (some (ap length (its_bytes ∙ handed_none s owners book p (λ z. absurd (omega arith)))))
 
-    its-length : length part.bytes ≡ lengthByte book.bytes p
-    its-length =
-        let a = address-passes s owners book.bytes p passed in
-        ap length (its-bytes ∙ ap (λ (x : Part). x.bytes) (handed-address s owners book p passed))
-        ∙ address-long 1 book.bytes (length owners) (book-passes s owners book.bytes a.0).1 p a.1
+    its_length : length part.bytes ≡ length_byte book.bytes p
+    its_length =
+        let a = address_passes s owners book.bytes p passed in
+        ap length (its_bytes ∙ ap (λ (x : Part). x.bytes) (handed_address s owners book p passed))
+        ∙ address_long 1 book.bytes (length owners) (book_passes s owners book.bytes a.0).1 p a.1
 
-    module _ {at : ℕ} (place : at ≡ entryPlace s owners book.bytes p) where
-      its-entry : at ≡ entry_at book.bytes p
-      its-entry = place ∙ sym (place-given s owners book.bytes p passed)
+    module _ {at : ℕ} (place : at ≡ entry_place s owners book.bytes p) where
+      its_entry : at ≡ entry_at book.bytes p
+      its_entry = place ∙ sym (place_given s owners book.bytes p passed)
 
       -- the address ends in the book
-      pub part-inside : at + 1 ≤ length book.bytes
-      part-inside = omega (arith, place, place_inside s owners p book.bytes passed)
+      pub part_inside : at + 1 ≤ length book.bytes
+      part_inside = omega (arith, place, place_inside s owners p book.bytes passed)
 
-      pub part-given : record { number = 0; at = at + 1; length = length part.bytes } ≡ partGiven s owners book.bytes p
-      unfolding partGiven
-      part-given = rw (passed, its-entry, its-length) refl
+      pub part_given_lem : record { number = 0; at = at + 1; length = length part.bytes } ≡ part_given s owners book.bytes p
+      unfolding part_given
+      part_given_lem = rw (passed, its_entry, its_length) refl

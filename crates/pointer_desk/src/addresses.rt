@@ -1,7 +1,7 @@
 // The address book (Document 01, The address book).
 ghost use Rattle.std.specs.Prelude.{◌≡◌};
-ghost use Rattle.book.specs.Book.{checkAnswer, searchAnswer};
-ghost use Rattle.pointer_desk.specs.Boundary.{flatAnswer, partGiven};
+ghost use Rattle.book.specs.Book.{check_answer, search_answer};
+ghost use Rattle.pointer_desk.specs.Boundary.{flat_answer, part_given};
 
 use crate::answer::{DeskAnswer, flat_answer};
 use book::{address, address_number, check, entry_place, search};
@@ -18,7 +18,7 @@ pub struct DeskPart {
 // The question for an address: the part that is handed out; it is empty after a refusal, as no address is.
 #[unsafe(no_mangle)]
 pub extern "C" fn desk_book_address(sites: u8, owners: &[u8], book: &[u8], pointer: u8) -> DeskPart
-    ensures { result ≡ partGiven sites owners.now book.now pointer }
+    ensures { result ≡ part_given sites owners.now book.now pointer }
 {
     let length = address(sites, owners, book, pointer).len();
     if length == 0 {
@@ -39,7 +39,7 @@ pub extern "C" fn desk_book_address(sites: u8, owners: &[u8], book: &[u8], point
 // A check of the book.
 #[unsafe(no_mangle)]
 pub extern "C" fn desk_book_check(sites: u8, owners: &[u8], book: &[u8]) -> DeskAnswer
-    ensures { result ≡ flatAnswer (checkAnswer sites owners.now book.now) }
+    ensures { result ≡ flat_answer (check_answer sites owners.now book.now) }
 {
     let a = check(sites, owners, book);
     flat_answer(a)
@@ -54,7 +54,7 @@ pub extern "C" fn desk_book_search(
     owner: u8,
     address: &[u8],
 ) -> DeskAnswer
-    ensures { result ≡ flatAnswer (searchAnswer sites owners.now book.now owner address.now) }
+    ensures { result ≡ flat_answer (search_answer sites owners.now book.now owner address.now) }
 {
     let a = search(sites, owners, book, owner, address);
     flat_answer(a)

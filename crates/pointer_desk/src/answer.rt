@@ -1,6 +1,6 @@
 // An answer for C: the message as slot bytes (Document 01, What the host lends, The calls).
 ghost use Rattle.std.specs.Prelude.{◌≡◌};
-ghost use Rattle.pointer_desk.specs.Boundary.{flatAnswer, orderedAnswer};
+ghost use Rattle.pointer_desk.specs.Boundary.{flat_answer, ordered_answer};
 
 use model::Answer;
 use rules::message::slot_bytes;
@@ -17,7 +17,7 @@ pub struct DeskAnswer {
 
 // An answer in C's form.
 pub fn flat_answer(a: Answer) -> DeskAnswer
-    ensures { result ≡ flatAnswer a }
+    ensures { result ≡ flat_answer a }
 {
     let posted = a.posted;
     let message = slot_bytes(posted);
@@ -41,7 +41,7 @@ pub struct DeskOrderedAnswer {
 
 // Its answer in C's form.
 pub fn ordered_answer(a: Answer) -> DeskOrderedAnswer
-    ensures { result ≡ orderedAnswer a }
+    ensures { result ≡ ordered_answer a }
 {
     let posted = a.posted;
     let message = slot_bytes(posted);

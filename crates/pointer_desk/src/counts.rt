@@ -3,7 +3,7 @@ ghost use Rattle.std.specs.Prelude.{◌≡◌, ◌+◌, ◌*◌, ◌<◌, length
 ghost use Rattle.model.specs.Tables.{lent};
 ghost use Rattle.model.specs.Survey.{share as share_of};
 ghost use Rattle.model.specs.Flat.{flat};
-ghost use Rattle.pointer_desk.specs.Boundary.{flatShare, rowByRow, sheetGiven};
+ghost use Rattle.pointer_desk.specs.Boundary.{flat_share, row_by_row, sheet_given};
 
 use bytes::share::share;
 use bytes::sheet::{sheet_by, sheet_number};
@@ -27,7 +27,7 @@ pub extern "C" fn desk_share(
     site: u8,
     pointer: u8,
 ) -> DeskShare
-    ensures { result ≡ flatShare (share_of flat (lent sites owners.now send.now receive.now pool.now) site pointer) }
+    ensures { result ≡ flat_share (share_of flat (lent sites owners.now send.now receive.now pool.now) site pointer) }
 {
     let a = share(sites, owners, send, receive, pool, site, pointer);
     DeskShare {
@@ -39,9 +39,9 @@ pub extern "C" fn desk_share(
 // A row of a sheet, after the rows before it.
 fn write_row(rows: &[[u32; 64]; 3], row: usize, sheet: &mut [u32])
     requires row_bound { (row < 3) × (length sheet.old ≡ 192) }
-    requires sheet_value { take (row * 64) sheet.old ≡ take (row * 64) (rowByRow rows.now) }
+    requires sheet_value { take (row * 64) sheet.old ≡ take (row * 64) (row_by_row rows.now) }
     ensures sheet_len { length sheet.new ≡ 192 }
-    ensures sheet_after { take (row * 64 + 64) sheet.new ≡ take (row * 64 + 64) (rowByRow rows.now) }
+    ensures sheet_after { take (row * 64 + 64) sheet.new ≡ take (row * 64 + 64) (row_by_row rows.now) }
 {
     let at = row * 64;
     let mut c = 0;
@@ -54,7 +54,7 @@ fn write_row(rows: &[[u32; 64]; 3], row: usize, sheet: &mut [u32])
 // A sheet as 192 counts, row by row.
 pub(crate) fn write_sheet(rows: &[[u32; 64]; 3], sheet: &mut [u32])
     requires { length sheet.old ≡ 192 }
-    ensures { sheet.new ≡ rowByRow rows.now }
+    ensures { sheet.new ≡ row_by_row rows.now }
 {
     write_row(rows, 0, sheet);
     write_row(rows, 1, sheet);
@@ -73,7 +73,7 @@ pub extern "C" fn desk_sheet(
     sheet: &mut [u32],
 ) -> u8
     ensures { record { number = result; counts = sheet.new }
-        ≡ sheetGiven flat (lent sites owners.now send.now receive.now pool.now) pointer sheet.old }
+        ≡ sheet_given flat (lent sites owners.now send.now receive.now pool.now) pointer sheet.old }
 {
     if sheet.len() != 192 {
         return 1;

@@ -1,6 +1,6 @@
 // The line form of a call: the writer, and the reader at a place of a text (Document 01, Lines).
 ghost use Rattle.std.specs.Prelude.{◌≡◌};
-ghost use Rattle.pointer_desk.specs.Boundary.{given, lineWritten, flatRead, lineGiven};
+ghost use Rattle.pointer_desk.specs.Boundary.{given, line_written, flat_read, line_given};
 
 use crate::answer::{DeskAnswer, flat_answer};
 use lines::line::read_bytes;
@@ -22,7 +22,7 @@ pub struct DeskLine {
 // The call of four bytes, as a line at the start of a text.
 #[unsafe(no_mangle)]
 pub extern "C" fn desk_line_write(code: u8, a: u8, b: u8, c: u8, text: &mut [u8]) -> DeskAnswer
-    ensures { record { answer = result; desk = text.new } ≡ given (lineWritten text.old code a b c) }
+    ensures { record { answer = result; desk = text.new } ≡ given (line_written text.old code a b c) }
 {
     match read_bytes(code, a, b, c) {
         Read::Said(call) => flat_answer(write_call(&mut text[..], call)),
@@ -32,7 +32,7 @@ pub extern "C" fn desk_line_write(code: u8, a: u8, b: u8, c: u8, text: &mut [u8]
 
 // What a line says, in C's form, and a place.
 fn flat_read(read: Read, at: usize) -> DeskLine
-    ensures { result ≡ flatRead read at }
+    ensures { result ≡ flat_read read at }
 {
     match read {
         Read::Said(call) => DeskLine {
@@ -53,7 +53,7 @@ fn flat_read(read: Read, at: usize) -> DeskLine
 // What the reader that stands at a place answers, and where it stands then.
 #[unsafe(no_mangle)]
 pub extern "C" fn desk_line_read(text: &[u8], at: usize) -> DeskLine
-    ensures { result ≡ lineGiven text.now at }
+    ensures { result ≡ line_given text.now at }
 {
     let past = past_from(text, at);
     match next_from(text, at) {

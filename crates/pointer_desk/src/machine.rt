@@ -1,7 +1,7 @@
 // The calls of the machine (Document 01, What the host lends, The calls).
 ghost use Rattle.std.specs.Prelude.{◌≡◌};
 ghost use Rattle.model.specs.Tables.{lent};
-ghost use Rattle.model.specs.Calls.{openDesk, makeCopy, receive as receiveOf, delete as deleteOf, ask as askOf};
+ghost use Rattle.model.specs.Calls.{open_desk, make_copy, receive as receive_of, delete as delete_of, ask as ask_of};
 ghost use Rattle.model.specs.Flat.{flat};
 ghost use Rattle.pointer_desk.specs.Boundary.{given};
 
@@ -22,7 +22,7 @@ pub extern "C" fn desk_open(
     pool: &mut [u8],
 ) -> DeskAnswer
     ensures { record { answer = result; desk = lent sites owners.now send.new receive.new pool.new }
-        ≡ given (openDesk flat (lent sites owners.now send.old receive.old pool.old)) }
+        ≡ given (open_desk flat (lent sites owners.now send.old receive.old pool.old)) }
 {
     let a = open_desk(
         sites,
@@ -47,7 +47,7 @@ pub extern "C" fn desk_make_copy(
     pointer: u8,
 ) -> DeskAnswer
     ensures { record { answer = result; desk = lent sites owners.now send.new receive.now pool.new }
-        ≡ given (makeCopy flat (lent sites owners.now send.old receive.now pool.old) from to pointer) }
+        ≡ given (make_copy flat (lent sites owners.now send.old receive.now pool.old) from to pointer) }
 {
     let a = make_copy(
         sites,
@@ -73,7 +73,7 @@ pub extern "C" fn desk_receive(
     slot: u16,
 ) -> DeskAnswer
     ensures { record { answer = result; desk = lent sites owners.now send.new receive.new pool.new }
-        ≡ given (receiveOf flat (lent sites owners.now send.old receive.old pool.old) slot) }
+        ≡ given (receive_of flat (lent sites owners.now send.old receive.old pool.old) slot) }
 {
     let a = receive_slot(
         sites,
@@ -98,7 +98,7 @@ pub extern "C" fn desk_delete(
     pointer: u8,
 ) -> DeskAnswer
     ensures { record { answer = result; desk = lent sites owners.now send.now receive.new pool.new }
-        ≡ given (deleteOf flat (lent sites owners.now send.now receive.old pool.old) site pointer) }
+        ≡ given (delete_of flat (lent sites owners.now send.now receive.old pool.old) site pointer) }
 {
     let a = delete(
         sites,
@@ -124,7 +124,7 @@ pub extern "C" fn desk_ask(
     pointer: u8,
 ) -> DeskAnswer
     ensures { record { answer = result; desk = lent sites owners.now send.now receive.now pool.now }
-        ≡ given (askOf flat (lent sites owners.now send.now receive.now pool.now) site pointer) }
+        ≡ given (ask_of flat (lent sites owners.now send.now receive.now pool.now) site pointer) }
 {
     let a = ask(sites, owners, send, receive, pool, site, pointer);
     flat_answer(a)

@@ -1,8 +1,8 @@
 // The calls of the in-order desk (Document 02, Three).
 ghost use Rattle.std.specs.Prelude.{◌≡◌};
-ghost use Rattle.model.specs.Calls.{openDesk, makeCopy, receive as receiveOf, delete as deleteOf, ask as askOf};
-ghost use Rattle.in_order.specs.Ordered.{lentInOrder, ordered};
-ghost use Rattle.pointer_desk.specs.Boundary.{givenInOrder};
+ghost use Rattle.model.specs.Calls.{open_desk, make_copy, receive as receive_of, delete as delete_of, ask as ask_of};
+ghost use Rattle.in_order.specs.Ordered.{lent_in_order, ordered};
+ghost use Rattle.pointer_desk.specs.Boundary.{given_in_order};
 
 use crate::answer::{DeskOrderedAnswer, ordered_answer};
 use ordered::ask::ask;
@@ -22,8 +22,8 @@ pub extern "C" fn desk_ordered_open(
     posts: &mut [u16],
     takes: &mut [u16],
 ) -> DeskOrderedAnswer
-    ensures { record { answer = result; desk = lentInOrder sites owners.now send.new receive.new pool.new posts.new takes.new }
-        ≡ givenInOrder (openDesk ordered (lentInOrder sites owners.now send.old receive.old pool.old posts.old takes.old)) }
+    ensures { record { answer = result; desk = lent_in_order sites owners.now send.new receive.new pool.new posts.new takes.new }
+        ≡ given_in_order (open_desk ordered (lent_in_order sites owners.now send.old receive.old pool.old posts.old takes.old)) }
 {
     let a = open_desk(
         sites,
@@ -51,8 +51,8 @@ pub extern "C" fn desk_ordered_make_copy(
     to: u8,
     pointer: u8,
 ) -> DeskOrderedAnswer
-    ensures { record { answer = result; desk = lentInOrder sites owners.now send.new receive.now pool.new posts.new takes.now }
-        ≡ givenInOrder (makeCopy ordered (lentInOrder sites owners.now send.old receive.now pool.old posts.old takes.now) from to pointer) }
+    ensures { record { answer = result; desk = lent_in_order sites owners.now send.new receive.now pool.new posts.new takes.now }
+        ≡ given_in_order (make_copy ordered (lent_in_order sites owners.now send.old receive.now pool.old posts.old takes.now) from to pointer) }
 {
     let a = make_copy(
         sites,
@@ -81,8 +81,8 @@ pub extern "C" fn desk_ordered_receive(
     takes: &mut [u16],
     slot: u16,
 ) -> DeskOrderedAnswer
-    ensures { record { answer = result; desk = lentInOrder sites owners.now send.new receive.new pool.new posts.new takes.new }
-        ≡ givenInOrder (receiveOf ordered (lentInOrder sites owners.now send.old receive.old pool.old posts.old takes.old) slot) }
+    ensures { record { answer = result; desk = lent_in_order sites owners.now send.new receive.new pool.new posts.new takes.new }
+        ≡ given_in_order (receive_of ordered (lent_in_order sites owners.now send.old receive.old pool.old posts.old takes.old) slot) }
 {
     let a = receive_slot(
         sites,
@@ -110,8 +110,8 @@ pub extern "C" fn desk_ordered_delete(
     site: u8,
     pointer: u8,
 ) -> DeskOrderedAnswer
-    ensures { record { answer = result; desk = lentInOrder sites owners.now send.now receive.new pool.new posts.new takes.now }
-        ≡ givenInOrder (deleteOf ordered (lentInOrder sites owners.now send.now receive.old pool.old posts.old takes.now) site pointer) }
+    ensures { record { answer = result; desk = lent_in_order sites owners.now send.now receive.new pool.new posts.new takes.now }
+        ≡ given_in_order (delete_of ordered (lent_in_order sites owners.now send.now receive.old pool.old posts.old takes.now) site pointer) }
 {
     let a = delete(
         sites,
@@ -140,8 +140,8 @@ pub extern "C" fn desk_ordered_ask(
     site: u8,
     pointer: u8,
 ) -> DeskOrderedAnswer
-    ensures { record { answer = result; desk = lentInOrder sites owners.now send.now receive.now pool.now posts.now takes.now }
-        ≡ givenInOrder (askOf ordered (lentInOrder sites owners.now send.now receive.now pool.now posts.now takes.now) site pointer) }
+    ensures { record { answer = result; desk = lent_in_order sites owners.now send.now receive.now pool.now posts.now takes.now }
+        ≡ given_in_order (ask_of ordered (lent_in_order sites owners.now send.now receive.now pool.now posts.now takes.now) site pointer) }
 {
     let a = ask(
         sites, owners, send, receive, pool, posts, takes, site, pointer,

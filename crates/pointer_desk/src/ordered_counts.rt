@@ -1,8 +1,8 @@
 // Share and sheet of the in-order desk (Document 02, Three).
 ghost use Rattle.std.specs.Prelude.{◌≡◌};
 ghost use Rattle.model.specs.Survey.{share as share_of};
-ghost use Rattle.in_order.specs.Ordered.{lentInOrder, ordered};
-ghost use Rattle.pointer_desk.specs.Boundary.{flatShare, sheetGiven};
+ghost use Rattle.in_order.specs.Ordered.{lent_in_order, ordered};
+ghost use Rattle.pointer_desk.specs.Boundary.{flat_share, sheet_given};
 
 use crate::counts::{DeskShare, write_sheet};
 use ordered::share::share;
@@ -21,7 +21,7 @@ pub extern "C" fn desk_ordered_share(
     site: u8,
     pointer: u8,
 ) -> DeskShare
-    ensures { result ≡ flatShare (share_of ordered (lentInOrder sites owners.now send.now receive.now pool.now posts.now takes.now) site pointer) }
+    ensures { result ≡ flat_share (share_of ordered (lent_in_order sites owners.now send.now receive.now pool.now posts.now takes.now) site pointer) }
 {
     let a = share(
         sites, owners, send, receive, pool, posts, takes, site, pointer,
@@ -46,7 +46,7 @@ pub extern "C" fn desk_ordered_sheet(
     sheet: &mut [u32],
 ) -> u8
     ensures { record { number = result; counts = sheet.new }
-        ≡ sheetGiven ordered (lentInOrder sites owners.now send.now receive.now pool.now posts.now takes.now) pointer sheet.old }
+        ≡ sheet_given ordered (lent_in_order sites owners.now send.now receive.now pool.now posts.now takes.now) pointer sheet.old }
 {
     if sheet.len() != 192 {
         return 1;

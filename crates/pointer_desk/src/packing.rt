@@ -1,6 +1,6 @@
 // Byte cells as words, and back (Document 02, Five).
 ghost use Rattle.std.specs.Prelude.{◌≡◌};
-ghost use Rattle.word_cells.specs.WordCells.{pack as packOf, unpack as unpackOf};
+ghost use Rattle.word_cells.specs.WordCells.{pack as pack_of, unpack as unpack_of};
 ghost use Rattle.pointer_desk.specs.Boundary.{numbered};
 
 use bits::pack::pack;
@@ -9,7 +9,7 @@ use bits::unpack::unpack;
 // Byte cells as words.
 #[unsafe(no_mangle)]
 pub extern "C" fn desk_words_pack(sites: u8, receive: &[u8], words: &mut [u64]) -> u8
-    ensures { record { number = result; counts = words.new } ≡ numbered (packOf sites receive.now words.old) }
+    ensures { record { number = result; counts = words.new } ≡ numbered (pack_of sites receive.now words.old) }
 {
     let a = pack(sites, receive, &mut words[..]);
     a.number
@@ -18,7 +18,7 @@ pub extern "C" fn desk_words_pack(sites: u8, receive: &[u8], words: &mut [u64]) 
 // Words as byte cells.
 #[unsafe(no_mangle)]
 pub extern "C" fn desk_words_unpack(sites: u8, words: &[u64], receive: &mut [u8]) -> u8
-    ensures { record { number = result; counts = receive.new } ≡ numbered (unpackOf sites words.now receive.old) }
+    ensures { record { number = result; counts = receive.new } ≡ numbered (unpack_of sites words.now receive.old) }
 {
     let a = unpack(sites, words, &mut receive[..]);
     a.number

@@ -1,7 +1,7 @@
 // The calls of the desk on words, and the count of holders (Document 02, Five).
 ghost use Rattle.std.specs.Prelude.{◌≡◌};
-ghost use Rattle.model.specs.Calls.{openDesk, makeCopy, receive as receiveOf, delete as deleteOf, ask as askOf};
-ghost use Rattle.word_cells.specs.WordCells.{lentInWords, words as words_of, countHolders};
+ghost use Rattle.model.specs.Calls.{open_desk, make_copy, receive as receive_of, delete as delete_of, ask as ask_of};
+ghost use Rattle.word_cells.specs.WordCells.{lent_in_words, words as words_of, count_holders};
 ghost use Rattle.pointer_desk.specs.Boundary.{given};
 
 use crate::answer::{DeskAnswer, flat_answer};
@@ -21,8 +21,8 @@ pub extern "C" fn desk_words_open(
     words: &mut [u64],
     pool: &mut [u8],
 ) -> DeskAnswer
-    ensures { record { answer = result; desk = lentInWords sites owners.now send.new words.new pool.new }
-        ≡ given (openDesk words_of (lentInWords sites owners.now send.old words.old pool.old)) }
+    ensures { record { answer = result; desk = lent_in_words sites owners.now send.new words.new pool.new }
+        ≡ given (open_desk words_of (lent_in_words sites owners.now send.old words.old pool.old)) }
 {
     let a = open_desk(sites, owners, &mut send[..], &mut words[..], &mut pool[..]);
     flat_answer(a)
@@ -40,8 +40,8 @@ pub extern "C" fn desk_words_make_copy(
     to: u8,
     pointer: u8,
 ) -> DeskAnswer
-    ensures { record { answer = result; desk = lentInWords sites owners.now send.new words.now pool.new }
-        ≡ given (makeCopy words_of (lentInWords sites owners.now send.old words.now pool.old) from to pointer) }
+    ensures { record { answer = result; desk = lent_in_words sites owners.now send.new words.now pool.new }
+        ≡ given (make_copy words_of (lent_in_words sites owners.now send.old words.now pool.old) from to pointer) }
 {
     let a = make_copy(
         sites,
@@ -66,8 +66,8 @@ pub extern "C" fn desk_words_receive(
     pool: &mut [u8],
     slot: u16,
 ) -> DeskAnswer
-    ensures { record { answer = result; desk = lentInWords sites owners.now send.new words.new pool.new }
-        ≡ given (receiveOf words_of (lentInWords sites owners.now send.old words.old pool.old) slot) }
+    ensures { record { answer = result; desk = lent_in_words sites owners.now send.new words.new pool.new }
+        ≡ given (receive_of words_of (lent_in_words sites owners.now send.old words.old pool.old) slot) }
 {
     let a = receive_slot(
         sites,
@@ -91,8 +91,8 @@ pub extern "C" fn desk_words_delete(
     site: u8,
     pointer: u8,
 ) -> DeskAnswer
-    ensures { record { answer = result; desk = lentInWords sites owners.now send.now words.new pool.new }
-        ≡ given (deleteOf words_of (lentInWords sites owners.now send.now words.old pool.old) site pointer) }
+    ensures { record { answer = result; desk = lent_in_words sites owners.now send.now words.new pool.new }
+        ≡ given (delete_of words_of (lent_in_words sites owners.now send.now words.old pool.old) site pointer) }
 {
     let a = delete(
         sites,
@@ -117,8 +117,8 @@ pub extern "C" fn desk_words_ask(
     site: u8,
     pointer: u8,
 ) -> DeskAnswer
-    ensures { record { answer = result; desk = lentInWords sites owners.now send.now words.now pool.now }
-        ≡ given (askOf words_of (lentInWords sites owners.now send.now words.now pool.now) site pointer) }
+    ensures { record { answer = result; desk = lent_in_words sites owners.now send.now words.now pool.now }
+        ≡ given (ask_of words_of (lent_in_words sites owners.now send.now words.now pool.now) site pointer) }
 {
     let a = ask(sites, owners, send, words, pool, site, pointer);
     flat_answer(a)
@@ -134,8 +134,8 @@ pub extern "C" fn desk_words_count(
     pool: &[u8],
     pointer: u8,
 ) -> DeskAnswer
-    ensures { record { answer = result; desk = lentInWords sites owners.now send.now words.now pool.now }
-        ≡ given (countHolders (lentInWords sites owners.now send.now words.now pool.now) pointer) }
+    ensures { record { answer = result; desk = lent_in_words sites owners.now send.now words.now pool.now }
+        ≡ given (count_holders (lent_in_words sites owners.now send.now words.now pool.now) pointer) }
 {
     let a = count_holders(sites, owners, send, words, pool, pointer);
     flat_answer(a)

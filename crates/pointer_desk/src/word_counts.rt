@@ -1,8 +1,8 @@
 // Share and sheet of the desk on words (Document 02, Five).
 ghost use Rattle.std.specs.Prelude.{◌≡◌};
 ghost use Rattle.model.specs.Survey.{share as share_of};
-ghost use Rattle.word_cells.specs.WordCells.{lentInWords, words as words_of};
-ghost use Rattle.pointer_desk.specs.Boundary.{flatShare, sheetGiven};
+ghost use Rattle.word_cells.specs.WordCells.{lent_in_words, words as words_of};
+ghost use Rattle.pointer_desk.specs.Boundary.{flat_share, sheet_given};
 
 use crate::counts::{DeskShare, write_sheet};
 use words::share::share;
@@ -19,7 +19,7 @@ pub extern "C" fn desk_words_share(
     site: u8,
     pointer: u8,
 ) -> DeskShare
-    ensures { result ≡ flatShare (share_of words_of (lentInWords sites owners.now send.now words.now pool.now) site pointer) }
+    ensures { result ≡ flat_share (share_of words_of (lent_in_words sites owners.now send.now words.now pool.now) site pointer) }
 {
     let a = share(sites, owners, send, words, pool, site, pointer);
     DeskShare {
@@ -40,7 +40,7 @@ pub extern "C" fn desk_words_sheet(
     sheet: &mut [u32],
 ) -> u8
     ensures { record { number = result; counts = sheet.new }
-        ≡ sheetGiven words_of (lentInWords sites owners.now send.now words.now pool.now) pointer sheet.old }
+        ≡ sheet_given words_of (lent_in_words sites owners.now send.now words.now pool.now) pointer sheet.old }
 {
     if sheet.len() != 192 {
         return 1;

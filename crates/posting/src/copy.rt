@@ -1,7 +1,7 @@
 // Make copy (Document 02, Three).
 ghost use Rattle.std.specs.Prelude.{◌≡◌};
-ghost use Rattle.model.specs.Calls.{makeCopy};
-ghost use Rattle.in_order.specs.Ordered.{lentInOrder, ordered};
+ghost use Rattle.model.specs.Calls.{make_copy};
+ghost use Rattle.in_order.specs.Ordered.{lent_in_order, ordered};
 
 use model::{Answer, Posted};
 use numbered::lowest::search;
@@ -24,8 +24,8 @@ pub fn make_copy(
     to: u8,
     pointer: u8,
 ) -> Answer
-    ensures { record { answer = result; desk = lentInOrder s owners.now send.new receive.now pool.new posts.new takes.now }
-        ≡ makeCopy ordered (lentInOrder s owners.now send.old receive.now pool.old posts.old takes.now) from to pointer }
+    ensures { record { answer = result; desk = lent_in_order s owners.now send.new receive.now pool.new posts.new takes.now }
+        ≡ make_copy ordered (lent_in_order s owners.now send.old receive.now pool.old posts.old takes.now) from to pointer }
 {
     let p = pointer as usize;
     let named = (from < s) & (to < s) & (p < owners.len());

@@ -1,7 +1,7 @@
 // Delete (Document 02, Three).
 ghost use Rattle.std.specs.Prelude.{◌≡◌};
-ghost use Rattle.model.specs.Calls.{delete as deleteOf};
-ghost use Rattle.in_order.specs.Ordered.{lentInOrder, ordered};
+ghost use Rattle.model.specs.Calls.{delete as delete_of};
+ghost use Rattle.in_order.specs.Ordered.{lent_in_order, ordered};
 
 use model::{Answer, Posted};
 use numbered::lowest::search;
@@ -23,8 +23,8 @@ pub fn delete(
     site: u8,
     pointer: u8,
 ) -> Answer
-    ensures { record { answer = result; desk = lentInOrder s owners.now send.now receive.new pool.new posts.new takes.now }
-        ≡ deleteOf ordered (lentInOrder s owners.now send.now receive.old pool.old posts.old takes.now) site pointer }
+    ensures { record { answer = result; desk = lent_in_order s owners.now send.now receive.new pool.new posts.new takes.now }
+        ≡ delete_of ordered (lent_in_order s owners.now send.now receive.old pool.old posts.old takes.now) site pointer }
 {
     let p = pointer as usize;
     let named = (site < s) & (p < owners.len());

@@ -1,7 +1,7 @@
 // Receive (Document 02, Three).
 ghost use Rattle.std.specs.Prelude.{◌≡◌};
-ghost use Rattle.model.specs.Calls.{receive as receiveOf};
-ghost use Rattle.in_order.specs.Ordered.{lentInOrder, ordered};
+ghost use Rattle.model.specs.Calls.{receive as receive_of};
+ghost use Rattle.in_order.specs.Ordered.{lent_in_order, ordered};
 
 use model::Answer;
 use numbered::pairs::{advance, pair_of};
@@ -25,8 +25,8 @@ pub fn receive(
     takes: &mut [u16],
     slot: u16,
 ) -> Answer
-    ensures { record { answer = result; desk = lentInOrder s owners.now send.new receive.new pool.new posts.new takes.new }
-        ≡ receiveOf ordered (lentInOrder s owners.now send.old receive.old pool.old posts.old takes.old) slot }
+    ensures { record { answer = result; desk = lent_in_order s owners.now send.new receive.new pool.new posts.new takes.new }
+        ≡ receive_of ordered (lent_in_order s owners.now send.old receive.old pool.old posts.old takes.old) slot }
 {
     let n = slot_refusal(
         s,

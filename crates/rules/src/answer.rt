@@ -1,12 +1,12 @@
 // Every answer is made here (Document 01, The calls).
 ghost use Rattle.std.specs.Prelude.{◌≡◌};
-ghost use Rattle.model.specs.Answers.{accepted as acceptedOf, acceptedTelling, refused as refusedOf};
+ghost use Rattle.model.specs.Answers.{accepted as accepted_of, accepted_telling, refused as refused_of};
 
 use model::{Answer, Posted};
 
 // An accepted call has number 0; most tell no count of empty slots.
 pub fn accepted(value: u16, posted: Posted) -> Answer
-    ensures { result ≡ acceptedOf value posted }
+    ensures { result ≡ accepted_of value posted }
 {
     Answer {
         number: 0,
@@ -18,7 +18,7 @@ pub fn accepted(value: u16, posted: Posted) -> Answer
 
 // Make copy and delete hand it on (Document 02, One).
 pub fn accepted_telling(empty: u16, value: u16, posted: Posted) -> Answer
-    ensures { result ≡ acceptedTelling empty value posted }
+    ensures { result ≡ accepted_telling empty value posted }
 {
     Answer {
         number: 0,
@@ -30,7 +30,7 @@ pub fn accepted_telling(empty: u16, value: u16, posted: Posted) -> Answer
 
 // A refusal has its number, value 0, no count and no message.
 pub fn refused(number: u8) -> Answer
-    ensures { result ≡ refusedOf number }
+    ensures { result ≡ refused_of number }
 {
     Answer {
         number,

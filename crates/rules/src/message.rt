@@ -1,6 +1,6 @@
 // A message: its slot bytes, its receiver and its pointer (Document 01, What the host lends).
 ghost use Rattle.std.specs.Prelude.{◌≡◌};
-ghost use Rattle.model.specs.Messages.{slot_of, isNothing, sender as senderOf, receiver as receiverOf, pointerOf, isIncDec};
+ghost use Rattle.model.specs.Messages.{slot_of, is_nothing, sender as sender_of, receiver as receiver_of, pointer_of, is_inc_dec};
 
 use model::Posted;
 
@@ -23,7 +23,7 @@ pub fn slot_bytes(m: Posted) -> [u8; 5]
 
 // Whether there is none.
 pub fn is_nothing(m: Posted) -> bool
-    ensures { result ≡ isNothing m }
+    ensures { result ≡ is_nothing m }
 {
     match m {
         Posted::Copy { .. } => false,
@@ -35,7 +35,7 @@ pub fn is_nothing(m: Posted) -> bool
 
 // The site that it came from.
 pub fn sender(m: Posted) -> u8
-    ensures { result ≡ senderOf m }
+    ensures { result ≡ sender_of m }
 {
     match m {
         Posted::Copy { from, .. } => from,
@@ -47,7 +47,7 @@ pub fn sender(m: Posted) -> u8
 
 // The site that receives it.
 pub fn receiver(m: Posted) -> u8
-    ensures { result ≡ receiverOf m }
+    ensures { result ≡ receiver_of m }
 {
     match m {
         Posted::Copy { to, .. } => to,
@@ -59,7 +59,7 @@ pub fn receiver(m: Posted) -> u8
 
 // Its pointer.
 pub fn pointer_of(m: Posted) -> u8
-    ensures { result ≡ pointerOf m }
+    ensures { result ≡ pointer_of m }
 {
     match m {
         Posted::Copy { pointer, .. } => pointer,
@@ -71,7 +71,7 @@ pub fn pointer_of(m: Posted) -> u8
 
 // Whether it is an INC_DEC from a to b for pointer p, with any third site.
 pub fn is_inc_dec(a: u8, b: u8, p: u8, m: Posted) -> bool
-    ensures { result ≡ isIncDec a b p m }
+    ensures { result ≡ is_inc_dec a b p m }
 {
     match m {
         Posted::Copy { .. } => false,

@@ -1,7 +1,7 @@
 // Refusals over scalars, in document 01's order (Why a call is turned down).
 ghost use Rattle.std.specs.Prelude.{◌≡◌};
-ghost use Rattle.model.specs.Refusals.{◌when◌, ◌orElse◌};
-ghost use Rattle.model.specs.Calls.{copyRefusal, deleteRefusal};
+ghost use Rattle.model.specs.Refusals.{◌when◌, ◌or_else◌};
+ghost use Rattle.model.specs.Calls.{copy_refusal, delete_refusal};
 
 // A number that is given when a test holds; 0 where it does not.
 pub fn when(n: u8, test: bool) -> u8
@@ -33,7 +33,7 @@ pub fn copy_refusal(
     slot: usize,
     slots: usize,
 ) -> u8
-    ensures { result ≡ copyRefusal from to owner cell counter slot slots }
+    ensures { result ≡ copy_refusal from to owner cell counter slot slots }
 {
     let same_site = when(4, from == to);
     let not_held = when(5, (from != owner) & (cell == 0));
@@ -45,7 +45,7 @@ pub fn copy_refusal(
 
 // Delete: 11, 5, 12, 7.
 pub fn delete_refusal(site: u8, owner: u8, cell: u8, counter: u16, slot: usize, slots: usize) -> u8
-    ensures { result ≡ deleteRefusal site owner cell counter slot slots }
+    ensures { result ≡ delete_refusal site owner cell counter slot slots }
 {
     let is_owner = when(11, site == owner);
     let not_held = when(5, cell == 0);

@@ -13,8 +13,8 @@ abbrev pub written : List ℕ → List ℕ → Written
 written output text = record { output = sets output 0 text; count = length text }
 
 -- a text at a place of it, where what stands before is written already
-abbrev pub writtenAt : List ℕ → ℕ → List ℕ → Written
-writtenAt output at text = record { output = sets output at text; count = at + length text }
+abbrev pub written_at : List ℕ → ℕ → List ℕ → Written
+written_at output at text = record { output = sets output at text; count = at + length text }
 
 -- enough for every input: 8,192 lines of 17 characters
 abbrev pub room : ℕ

@@ -2,8 +2,8 @@
 ghost use Rattle.std.specs.Prelude.{◌≡◌, true, ◌/◌, length};
 ghost use Rattle.model.specs.Questions.{every};
 ghost use Rattle.model.specs.Lines.{is_byte};
-ghost use Rattle.model.specs.Transcript.{openingForm, ownersIn};
-ghost use Rattle.runner.specs.Opened.{pointersIn, readOpening, numberIn};
+ghost use Rattle.model.specs.Transcript.{opening_form, owners_in};
+ghost use Rattle.runner.specs.Opened.{pointers_in, read_opening, number_in};
 
 use lines::digit::byte_at;
 use tables::shape::shape_good;
@@ -31,7 +31,7 @@ fn all_bytes(line: &[u8]) -> bool
 
 // 6 to 518 digits, an even count.
 fn form_good(line: &[u8]) -> bool
-    ensures { result ≡ openingForm line.now }
+    ensures { result ≡ opening_form line.now }
 {
     let n = line.len();
     (6 <= n) & (n <= 518) & (n % 2 == 0) & all_bytes(line)
@@ -39,7 +39,7 @@ fn form_good(line: &[u8]) -> bool
 
 // Form (14), then shape (1): no table is made for a shape that does not fit.
 pub(crate) fn read_opening(line: &[u8]) -> Opening
-    ensures { result ≡ readOpening line.now }
+    ensures { result ≡ read_opening line.now }
 {
     if !form_good(line) {
         return Opening::Refused(14);
@@ -56,7 +56,7 @@ pub(crate) fn read_opening(line: &[u8]) -> Opening
 
 // The number of an opening line that asks for nothing.
 pub(crate) fn number_in(opening: Opening) -> u8
-    ensures { result ≡ numberIn opening }
+    ensures { result ≡ number_in opening }
 {
     match opening {
         Opening::Asks { .. } => 0,
@@ -66,8 +66,8 @@ pub(crate) fn number_in(opening: Opening) -> u8
 
 // The owners of an opening line of good form.
 pub(crate) fn fill_owners(line: &[u8], owners: &mut [u8])
-    requires { (openingForm line.now ≡ true) × (length owners.old ≡ pointersIn line.now) }
-    ensures { owners.new ≡ ownersIn line.now }
+    requires { (opening_form line.now ≡ true) × (length owners.old ≡ pointers_in line.now) }
+    ensures { owners.new ≡ owners_in line.now }
 {
     let mut p = 0;
     while p < owners.len() {

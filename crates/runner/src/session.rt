@@ -2,11 +2,11 @@
 ghost use Rattle.std.specs.Prelude.{◌≡◌, true, ◌+◌, ◌*◌, ◌≤◌, ◌<◌, length};
 ghost use Rattle.model.specs.Tables.{lent};
 ghost use Rattle.model.specs.Flat.{flat};
-ghost use Rattle.model.specs.Calls.{openDesk, step as step_of};
-ghost use Rattle.model.specs.Lines.{refusalIn, lines_of};
-ghost use Rattle.model.specs.Transcript.{openingForm, ownersIn, fresh, answers, begun, session as sessionOf};
-ghost use Rattle.runner.specs.Run.{written, writtenAt, room};
-ghost use Rattle.runner.specs.Opened.{pointersIn, Opens};
+ghost use Rattle.model.specs.Calls.{open_desk, step as step_of};
+ghost use Rattle.model.specs.Lines.{refusal_in, lines_of};
+ghost use Rattle.model.specs.Transcript.{opening_form, owners_in, fresh, answers, begun, session as session_of};
+ghost use Rattle.runner.specs.Run.{written, written_at, room};
+ghost use Rattle.runner.specs.Opened.{pointers_in, Opens};
 
 use crate::opening::{Opening, fill_owners, number_in, read_opening};
 use bytes::ask::ask;
@@ -47,7 +47,7 @@ fn step(
 
 // The number of a line that says no call.
 fn refusal_in(read: Read) -> u8
-    ensures { result ≡ refusalIn read }
+    ensures { result ≡ refusal_in read }
 {
     match read {
         Read::Said(_) => 0,
@@ -67,7 +67,7 @@ fn answer_lines(
 ) -> usize
     requires { length text.now * 17 + 17 ≤ length output.old }
     ensures { record { output = output.exit.now; count = result }
-        ≡ writtenAt output.entry.now 17 (answers (lent s owners.now send.old receive.old pool.old) (lines_of text.now)) }
+        ≡ written_at output.entry.now 17 (answers (lent s owners.now send.old receive.old pool.old) (lines_of text.now)) }
 {
     let mut at = 0;
     let mut end = 17;
@@ -100,9 +100,9 @@ fn session(
     pool: &mut [u8],
     output: &mut [u8],
 ) -> usize
-    requires { (openingForm line.now ≡ true) × (length owners.old ≡ pointersIn line.now) × (length rest.now * 17 + 17 ≤ length output.old) }
+    requires { (opening_form line.now ≡ true) × (length owners.old ≡ pointers_in line.now) × (length rest.now * 17 + 17 ≤ length output.old) }
     ensures { record { output = output.exit.now; count = result }
-        ≡ written output.entry.now (begun (openDesk flat (lent s (ownersIn line.now) send.old receive.old pool.old)) (lines_of rest.now)) }
+        ≡ written output.entry.now (begun (open_desk flat (lent s (owners_in line.now) send.old receive.old pool.old)) (lines_of rest.now)) }
 {
     fill_owners(line, owners);
     let answer = open_desk(s, &owners[..], send, receive, pool);
@@ -118,7 +118,7 @@ fn session(
 fn with_tables(line: &[u8], rest: &[u8], s: u8, slots: usize, output: &mut [u8]) -> usize
     requires { Opens line.now s slots × (length rest.now * 17 + 17 ≤ length output.old) }
     ensures { record { output = output.exit.now; count = result }
-        ≡ written output.entry.now (begun (openDesk flat (fresh s (ownersIn line.now) slots)) (lines_of rest.now)) }
+        ≡ written output.entry.now (begun (open_desk flat (fresh s (owners_in line.now) slots)) (lines_of rest.now)) }
 {
     let g = line.len() / 2 - 3;
     let cells = (s as usize) * g;
@@ -142,7 +142,7 @@ fn with_tables(line: &[u8], rest: &[u8], s: u8, slots: usize, output: &mut [u8])
 // The first line opens; a line that is refused for its form or its shape stops it.
 pub(crate) fn begin(input: &[u8], output: &mut [u8]) -> usize
     requires { (0 < length input.now) × (length input.now ≤ 8192) × (room ≤ length output.old) }
-    ensures { record { output = output.exit.now; count = result } ≡ written output.entry.now (sessionOf (lines_of input.now)) }
+    ensures { record { output = output.exit.now; count = result } ≡ written output.entry.now (session_of (lines_of input.now)) }
 {
     let end = line_end(input, 0);
     let from = past_first(input);

@@ -7,8 +7,8 @@ use lib.Dec.{ltb}
 use borrow.Author.Tests.{ltb-true, lt-ltb}
 use Rattle.model.proofs.TestLaws.{same_test, and_both}
 
-pub larger-below : (m x n : ℕ) {larger : ℕ} → larger ≡ max m x → ltb larger n ≡ (ltb m n && ltb x n)
-larger-below m x n {larger} e =
+pub larger_below : (m x n : ℕ) {larger : ℕ} → larger ≡ max m x → ltb larger n ≡ (ltb m n && ltb x n)
+larger_below m x n {larger} e =
     same_test (ltb larger n) (ltb m n && ltb x n)
     (λ q. let l = ltb-true larger n q in rw (lt-ltb m n (omega arith), lt-ltb x n (omega arith)))
     (λ q.

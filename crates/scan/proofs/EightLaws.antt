@@ -12,21 +12,21 @@ use mir.Syntax.{w8}
 use mir.Val.{Fits}
 use borrow.Author.Tests.{eqb-true, eq-eqb, ltb-true, ltb-false, lt-ltb}
 use Rattle.model.specs.Questions.{every}
-use Rattle.model.specs.Tables.{byteBelow}
+use Rattle.model.specs.Tables.{byte_below}
 use Rattle.model.proofs.TestLaws.{same_test, and_both, and_assoc}
-use Rattle.model.proofs.QuestionLaws.{every-at, every-all}
-use Rattle.scan.specs.Word.{eight, eightAt, clear, bitMask}
-use Rattle.scan.proofs.FieldLaws.{clear_or, seen_more, masked-block}
+use Rattle.model.proofs.QuestionLaws.{every_at, every_all}
+use Rattle.scan.specs.Word.{eight, eight_at, clear, bit_mask}
+use Rattle.scan.proofs.FieldLaws.{clear_or, seen_more, masked_block}
 
-and-true : (b : Bool) → (b && true) ≡ b
-and-true true = refl
-and-true false = refl
+and_true : (b : Bool) → (b && true) ≡ b
+and_true true = refl
+and_true false = refl
 
 -- ---- one number
 -- the lowest byte, and those above it
-bits-block : (x m r : ℕ) → r < 256 → clear (m * 256 + 254) (x * 256 + r) ≡ (ltb r 2 && clear m x)
-bits-block x m r l =
-    let e = masked-block x m r 254 l (omega arith) refl (and_high r 7 1) in
+bits_block : (x m r : ℕ) → r < 256 → clear (m * 256 + 254) (x * 256 + r) ≡ (ltb r 2 && clear m x)
+bits_block x m r l =
+    let e = masked_block x m r 254 l (omega arith) refl (and_high r 7 1) in
     same_test (clear (m * 256 + 254) (x * 256 + r)) (ltb r 2 && clear m x)
     (λ t.
     let z = sym e ∙ eqb-true (bit_and (x * 256 + r) (m * 256 + 254)) 0 t in
@@ -37,9 +37,9 @@ bits-block x m r l =
     let zx = eqb-true (bit_and x m) 0 b.1 in
     eq-eqb (bit_and (x * 256 + r) (m * 256 + 254)) 0 (e ∙ omega arith))
 
-eight-clear : (a b c d e f g h : ℕ) → a < 256 → b < 256 → c < 256 → d < 256 → e < 256 → f < 256 → g < 256 → h < 256
-    → clear bitMask (eight a b c d e f g h) ≡ (ltb a 2 && (ltb b 2 && (ltb c 2 && (ltb d 2 && (ltb e 2 && (ltb f 2 && (ltb g 2 && ltb h 2)))))))
-eight-clear a b c d e f g h la lb lc ld le lf lg lh =
+eight_clear : (a b c d e f g h : ℕ) → a < 256 → b < 256 → c < 256 → d < 256 → e < 256 → f < 256 → g < 256 → h < 256
+    → clear bit_mask (eight a b c d e f g h) ≡ (ltb a 2 && (ltb b 2 && (ltb c 2 && (ltb d 2 && (ltb e 2 && (ltb f 2 && (ltb g 2 && ltb h 2)))))))
+eight_clear a b c d e f g h la lb lc ld le lf lg lh =
     let x1 = 0 * 256 + h in
     let x2 = x1 * 256 + g in
     let x3 = x2 * 256 + f in
@@ -48,15 +48,15 @@ eight-clear a b c d e f g h la lb lc ld le lf lg lh =
     let x6 = x5 * 256 + c in
     let x7 = x6 * 256 + b in
     let q : eight a b c d e f g h ≡ x7 * 256 + a = omega arith in
-    ap (clear bitMask) q
-    ∙ bits-block x7 71775015237779198 a la
-    ∙ (λ w. ltb a 2 && bits-block x6 280371153272574 b lb w)
-    ∙ (λ w. ltb a 2 && (ltb b 2 && bits-block x5 1095199817470 c lc w))
-    ∙ (λ w. ltb a 2 && (ltb b 2 && (ltb c 2 && bits-block x4 4278124286 d ld w)))
-    ∙ (λ w. ltb a 2 && (ltb b 2 && (ltb c 2 && (ltb d 2 && bits-block x3 16711422 e le w))))
-    ∙ (λ w. ltb a 2 && (ltb b 2 && (ltb c 2 && (ltb d 2 && (ltb e 2 && bits-block x2 65278 f lf w)))))
-    ∙ (λ w. ltb a 2 && (ltb b 2 && (ltb c 2 && (ltb d 2 && (ltb e 2 && (ltb f 2 && bits-block x1 254 g lg w))))))
-    ∙ (λ w. ltb a 2 && (ltb b 2 && (ltb c 2 && (ltb d 2 && (ltb e 2 && (ltb f 2 && (ltb g 2 && (bits-block 0 0 h lh ∙ and-true (ltb h 2)) w)))))))
+    ap (clear bit_mask) q
+    ∙ bits_block x7 71775015237779198 a la
+    ∙ (λ w. ltb a 2 && bits_block x6 280371153272574 b lb w)
+    ∙ (λ w. ltb a 2 && (ltb b 2 && bits_block x5 1095199817470 c lc w))
+    ∙ (λ w. ltb a 2 && (ltb b 2 && (ltb c 2 && bits_block x4 4278124286 d ld w)))
+    ∙ (λ w. ltb a 2 && (ltb b 2 && (ltb c 2 && (ltb d 2 && bits_block x3 16711422 e le w))))
+    ∙ (λ w. ltb a 2 && (ltb b 2 && (ltb c 2 && (ltb d 2 && (ltb e 2 && bits_block x2 65278 f lf w)))))
+    ∙ (λ w. ltb a 2 && (ltb b 2 && (ltb c 2 && (ltb d 2 && (ltb e 2 && (ltb f 2 && bits_block x1 254 g lg w))))))
+    ∙ (λ w. ltb a 2 && (ltb b 2 && (ltb c 2 && (ltb d 2 && (ltb e 2 && (ltb f 2 && (ltb g 2 && (bits_block 0 0 h lh ∙ and_true (ltb h 2)) w)))))))
 
 -- ---- words that cover
 -- the first k, and m from a place on that is no later
@@ -65,16 +65,16 @@ covered P k at m next low e =
     same_test (every k P && every m (λ j. P (at + j))) (every next P)
     (λ t.
     let b = and_both (every k P) (every m (λ j. P (at + j))) t in
-    every-all P next (λ i l. go i l b.0 b.1 (ltb i k) refl))
+    every_all P next (λ i l. go i l b.0 b.1 (ltb i k) refl))
     (λ t.
-    rw (every-all P k (λ i l. every-at P next i (omega arith) t), every-all (λ j. P (at + j)) m (λ j l. every-at P next (at + j) (omega arith) t)))
+    rw (every_all P k (λ i l. every_at P next i (omega arith) t), every_all (λ j. P (at + j)) m (λ j l. every_at P next (at + j) (omega arith) t)))
   where
     go : (i : ℕ) → i < next → every k P ≡ true → every m (λ j. P (at + j)) ≡ true → (b : Bool) → ltb i k ≡ b → P i ≡ true
-    go i l first later true t = every-at P k i (ltb-true i k t) first
+    go i l first later true t = every_at P k i (ltb-true i k t) first
     go i l first later false t =
         let far = ltb-false i k t in
         let q : at + (i - at) ≡ i = omega arith in
-        rw q at (every-at (λ j. P (at + j)) m (i - at) (omega arith) later)
+        rw q at (every_at (λ j. P (at + j)) m (i - at) (omega arith) later)
 
 -- m more are seen, from a place on that is no later than k
 pub seen_covered : (mask : ℕ) (P : ℕ → Bool) (k at m next seen x : ℕ) → at ≤ k → max k (at + m) ≡ next
@@ -82,9 +82,9 @@ pub seen_covered : (mask : ℕ) (P : ℕ → Bool) (k at m next seen x : ℕ) �
 seen_covered mask P k at m next seen x low e before ex = clear_or mask seen x ∙ ap₂ ◌&&◌ before ex ∙ covered P k at m next low e
 
 -- the first m and the last m are all n
-pub seen-ends : (mask : ℕ) (P : ℕ → Bool) (m n first last : ℕ) → m ≤ n → n ≤ m + m
+pub seen_ends : (mask : ℕ) (P : ℕ → Bool) (m n first last : ℕ) → m ≤ n → n ≤ m + m
     → clear mask first ≡ every m (λ j. P (0 + j)) → clear mask last ≡ every m (λ j. P (n - m + j)) → clear mask (bit_or first last) ≡ every n P
-seen-ends mask P m n first last low high ef el =
+seen_ends mask P m n first last low high ef el =
     seen_covered mask P m (n - m) m n first last (omega arith) (omega arith) (ef ∙ (λ w. every m (λ j. P (zero-add j w)))) el
 
 -- eight at a time
@@ -93,16 +93,16 @@ unfolding every
 words P zero = refl
 words P (suc n) = ap (λ (b : Bool). b && every 8 (λ j. P (n * 8 + j))) (words P n) ∙ covered P (n * 8) (n * 8) 8 (suc n * 8) (omega arith) (omega arith)
 
-four-ands : (a b c d : Bool) → ((a && b) && (c && d)) ≡ ((a && c) && (b && d))
-four-ands true true c d = refl
-four-ands true false true d = refl
-four-ands true false false d = refl
-four-ands false b c d = refl
+four_ands : (a b c d : Bool) → ((a && b) && (c && d)) ≡ ((a && c) && (b && d))
+four_ands true true c d = refl
+four_ands true false true d = refl
+four_ands true false false d = refl
+four_ands false b c d = refl
 
 pub both : (P Q : ℕ → Bool) (n : ℕ) → every n (λ k. P k && Q k) ≡ (every n P && every n Q)
 unfolding every
 both P Q zero = refl
-both P Q (suc n) = ap (λ (b : Bool). b && (P n && Q n)) (both P Q n) ∙ four-ands (every n P) (every n Q) (P n) (Q n)
+both P Q (suc n) = ap (λ (b : Bool). b && (P n && Q n)) (both P Q n) ∙ four_ands (every n P) (every n Q) (P n) (Q n)
 
 -- ---- four streams of q words
 module _ (P : ℕ → Bool) (q : ℕ) where
@@ -110,11 +110,11 @@ module _ (P : ℕ → Bool) (q : ℕ) where
   word k = every 8 (λ j. P (k * 8 + j))
 
   -- the words at k of each stream
-  abbrev pub inStreams : ℕ → Bool
-  inStreams k = word k && word (q + k) && word (q + q + k) && word (q + q + q + k)
+  abbrev pub in_streams : ℕ → Bool
+  in_streams k = word k && word (q + k) && word (q + q + k) && word (q + q + q + k)
 
-  pub streams-done : every q inStreams ≡ every (q * 32) P
-  streams-done =
+  pub streams_done : every q in_streams ≡ every (q * 32) P
+  streams_done =
       both (λ k. word k && word (q + k) && word (q + q + k)) (λ k. word (q + q + q + k)) q
       ∙ (λ w. both (λ k. word k && word (q + k)) (λ k. word (q + q + k)) q w && every q (λ k. word (q + q + q + k)))
       ∙ (λ w. (both word (λ k. word (q + k)) q w && every q (λ k. word (q + q + k))) && every q (λ k. word (q + q + q + k)))
@@ -129,30 +129,30 @@ module _ (bytes : List ℕ) (known : (j : ℕ) → Fits w8 (get_or bytes j 0)) w
   byte : (j : ℕ) → get_or bytes j 0 < 256
   byte j = omega (arith, known j)
 
-  pub eight-bits : (at : ℕ) {x : ℕ} → x ≡ eightAt bytes at → clear bitMask x ≡ every 8 (λ j. byteBelow 2 bytes (at + j))
+  pub eight_bits : (at : ℕ) {x : ℕ} → x ≡ eight_at bytes at → clear bit_mask x ≡ every 8 (λ j. byte_below 2 bytes (at + j))
   unfolding every
-  eight-bits at e =
-      ap (clear bitMask) e
-      ∙ eight-clear _ _ _ _ _ _ _ _ (byte at) (byte (at + 1)) (byte (at + 2)) (byte (at + 3)) (byte (at + 4)) (byte (at + 5)) (byte (at + 6)) (byte (at + 7))
+  eight_bits at e =
+      ap (clear bit_mask) e
+      ∙ eight_clear _ _ _ _ _ _ _ _ (byte at) (byte (at + 1)) (byte (at + 2)) (byte (at + 3)) (byte (at + 4)) (byte (at + 5)) (byte (at + 6)) (byte (at + 7))
       ∙ simp (and_assoc, add-zero at)
 
   -- two words in a row are seen
-  pub sixteen-bits : (at : ℕ) {x y : ℕ} → x ≡ eightAt bytes at → y ≡ eightAt bytes (at + 8) → clear bitMask (bit_or x y) ≡ every 16 (λ j. byteBelow 2 bytes (at + j))
-  sixteen-bits at {x} {y} ex ey =
-      seen_covered bitMask (λ j. byteBelow 2 bytes (at + j)) 8 8 8 16 x y (omega arith) (omega arith) (eight-bits at ex)
-      (eight-bits (at + 8) ey ∙ (λ w. every 8 (λ j. byteBelow 2 bytes (add_assoc at 8 j w))))
+  pub sixteen_bits : (at : ℕ) {x y : ℕ} → x ≡ eight_at bytes at → y ≡ eight_at bytes (at + 8) → clear bit_mask (bit_or x y) ≡ every 16 (λ j. byte_below 2 bytes (at + j))
+  sixteen_bits at {x} {y} ex ey =
+      seen_covered bit_mask (λ j. byte_below 2 bytes (at + j)) 8 8 8 16 x y (omega arith) (omega arith) (eight_bits at ex)
+      (eight_bits (at + 8) ey ∙ (λ w. every 8 (λ j. byte_below 2 bytes (add_assoc at 8 j w))))
 
   -- a word of each stream is seen
-  word-bits : (k at : ℕ) {x : ℕ} → x ≡ eightAt bytes at → at ≡ k * 8 → clear bitMask x ≡ every 8 (λ j. byteBelow 2 bytes (k * 8 + j))
-  word-bits k at ex q = eight-bits (k * 8) (ex ∙ ap (eightAt bytes) q)
+  word_bits : (k at : ℕ) {x : ℕ} → x ≡ eight_at bytes at → at ≡ k * 8 → clear bit_mask x ≡ every 8 (λ j. byte_below 2 bytes (k * 8 + j))
+  word_bits k at ex q = eight_bits (k * 8) (ex ∙ ap (eight_at bytes) q)
 
-  pub streams-more : (q i seen : ℕ) {a b c d : ℕ} → a ≡ eightAt bytes (i * 8) → b ≡ eightAt bytes (q * 8 + i * 8) → c ≡ eightAt bytes (q * 16 + i * 8) → d ≡ eightAt bytes (q * 24 + i * 8)
-      → clear bitMask seen ≡ every i (inStreams (byteBelow 2 bytes) q)
-      → clear bitMask (bit_or seen (bit_or (bit_or (bit_or a b) c) d)) ≡ every (i + 1) (inStreams (byteBelow 2 bytes) q)
-  streams-more q i seen {a} {b} {c} {d} ea eb ec ed before =
-      seen_more bitMask (inStreams (byteBelow 2 bytes) q) i (i + 1) seen (bit_or (bit_or (bit_or a b) c) d) refl before
-      (clear_or bitMask (bit_or (bit_or a b) c) d
+  pub streams_more : (q i seen : ℕ) {a b c d : ℕ} → a ≡ eight_at bytes (i * 8) → b ≡ eight_at bytes (q * 8 + i * 8) → c ≡ eight_at bytes (q * 16 + i * 8) → d ≡ eight_at bytes (q * 24 + i * 8)
+      → clear bit_mask seen ≡ every i (in_streams (byte_below 2 bytes) q)
+      → clear bit_mask (bit_or seen (bit_or (bit_or (bit_or a b) c) d)) ≡ every (i + 1) (in_streams (byte_below 2 bytes) q)
+  streams_more q i seen {a} {b} {c} {d} ea eb ec ed before =
+      seen_more bit_mask (in_streams (byte_below 2 bytes) q) i (i + 1) seen (bit_or (bit_or (bit_or a b) c) d) refl before
+      (clear_or bit_mask (bit_or (bit_or a b) c) d
       ∙ ap₂ ◌&&◌
-      (clear_or bitMask (bit_or a b) c
-      ∙ ap₂ ◌&&◌ (clear_or bitMask a b ∙ ap₂ ◌&&◌ (word-bits i (i * 8) ea refl) (word-bits (q + i) (q * 8 + i * 8) eb (omega arith))) (word-bits (q + q + i) (q * 16 + i * 8) ec (omega arith)))
-      (word-bits (q + q + q + i) (q * 24 + i * 8) ed (omega arith)))
+      (clear_or bit_mask (bit_or a b) c
+      ∙ ap₂ ◌&&◌ (clear_or bit_mask a b ∙ ap₂ ◌&&◌ (word_bits i (i * 8) ea refl) (word_bits (q + i) (q * 8 + i * 8) eb (omega arith))) (word_bits (q + q + i) (q * 16 + i * 8) ec (omega arith)))
+      (word_bits (q + q + q + i) (q * 24 + i * 8) ed (omega arith)))

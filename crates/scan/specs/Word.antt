@@ -10,8 +10,8 @@ packed kind from to third p = kind + from * 256 + to * 65536 + third * 16777216 
 abbrev pub eight : ℕ → ℕ → ℕ → ℕ → ℕ → ℕ → ℕ → ℕ → ℕ
 eight a b c d e f g h = packed a b c d e + f * 1099511627776 + g * 281474976710656 + h * 72057594037927936
 
-abbrev pub eightAt : List ℕ → ℕ → ℕ
-eightAt bytes at =
+abbrev pub eight_at : List ℕ → ℕ → ℕ
+eight_at bytes at =
     eight (get_or bytes at 0) (get_or bytes (at + 1) 0) (get_or bytes (at + 2) 0) (get_or bytes (at + 3) 0)
     (get_or bytes (at + 4) 0) (get_or bytes (at + 5) 0) (get_or bytes (at + 6) 0) (get_or bytes (at + 7) 0)
 
@@ -20,12 +20,12 @@ abbrev pub clear : ℕ → ℕ → Bool
 clear mask a = eqb (bit_and a mask) 0
 
 -- 0x100808080FC: the top bit of each field of a slot, and the kind's bits above 3
-abbrev pub slotMask : ℕ
-slotMask = 1101667533052
+abbrev pub slot_mask : ℕ
+slot_mask = 1101667533052
 
 -- 0xFEFEFEFEFEFEFEFE: the bits of each of eight bytes but the lowest
-abbrev pub bitMask : ℕ
-bitMask = 18374403900871474942
+abbrev pub bit_mask : ℕ
+bit_mask = 18374403900871474942
 
 -- by kind, what may be added to each field of a good slot before it reaches the field's top bit: 128 - s at a site, 256 - g at the pointer, 127 or 255 where it must be 0
 abbrev pub rooms : ℕ → ℕ → List ℕ
@@ -41,13 +41,13 @@ abbrev pub Roomy : List ℕ → Type 0
 Roomy room = (j : ℕ) → get_or room j 0 < 2199023255552
 
 -- the test of a slot as one number: it is clear, and with the room of its kind too
-abbrev pub wordGood : List ℕ → ℕ → Bool
-wordGood room x = clear slotMask x && clear slotMask (x + get_or room (x % 4) 0)
+abbrev pub word_good : List ℕ → ℕ → Bool
+word_good room x = clear slot_mask x && clear slot_mask (x + get_or room (x % 4) 0)
 
 -- by kind, what a slot adds to the count of empty slots
 abbrev pub ones : List ℕ
 ones = 1 ∷ 0 ∷ 0 ∷ 0 ∷ []
 
 -- whether a slot as one number is counted as empty: the rest by 4 is the kind of a good one
-abbrev pub wordEmpty : ℕ → Bool
-wordEmpty x = eqb (x % 4) 0
+abbrev pub word_empty : ℕ → Bool
+word_empty x = eqb (x % 4) 0

@@ -1,8 +1,8 @@
 // Bytes below a limit: owners and receive cells (Document 01, What the host lends).
 ghost use Rattle.std.specs.Prelude.{◌≡◌, ◌+◌, ◌*◌, ◌≤◌, length};
 ghost use Rattle.model.specs.Questions.{every};
-ghost use Rattle.model.specs.Tables.{byteBelow, all_below};
-ghost use Rattle.scan.specs.Word.{clear, bitMask};
+ghost use Rattle.model.specs.Tables.{byte_below, all_below};
+ghost use Rattle.scan.specs.Word.{clear, bit_mask};
 
 use crate::word::eight_at;
 
@@ -25,7 +25,7 @@ pub fn all_below(bytes: &[u8], n: u8) -> bool
 
 // Whether none of the eight bytes of a number shows more than its lowest bit.
 fn only_bits(seen: u64) -> bool
-    ensures { result ≡ clear bitMask seen }
+    ensures { result ≡ clear bit_mask seen }
 {
     (seen & 0xFEFE_FEFE_FEFE_FEFE) == 0
 }
@@ -33,7 +33,7 @@ fn only_bits(seen: u64) -> bool
 // What the first 32 q bytes show, in four streams of words, so that the compiler takes several at a step.
 fn streams_shown(bytes: &[u8], q: usize) -> u64
     requires { q * 32 ≤ length bytes.now }
-    ensures { clear bitMask result ≡ every (q * 32) (byteBelow 2 bytes.now) }
+    ensures { clear bit_mask result ≡ every (q * 32) (byte_below 2 bytes.now) }
 {
     let mut seen: u64 = 0;
     let mut i = 0;
@@ -52,7 +52,7 @@ fn streams_shown(bytes: &[u8], q: usize) -> u64
 // What sixteen bytes show.
 fn sixteen_shown(bytes: &[u8], at: usize) -> u64
     requires { at + 16 ≤ length bytes.now }
-    ensures { clear bitMask result ≡ every 16 (λ j. byteBelow 2 bytes.now (at + j)) }
+    ensures { clear bit_mask result ≡ every 16 (λ j. byte_below 2 bytes.now (at + j)) }
 {
     eight_at(bytes, at) | eight_at(bytes, at + 8)
 }

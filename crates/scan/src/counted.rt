@@ -2,9 +2,9 @@
 ghost use Rattle.std.specs.Prelude.{◌≡◌, ◌+◌, ◌*◌, ◌≤◌, ◌<◌, length};
 ghost use Rattle.std.specs.Int.Bits.{bit_or};
 ghost use Rattle.model.specs.Refusals.{◌when◌};
-ghost use Rattle.model.specs.Questions.{every, howMany};
-ghost use Rattle.model.specs.Tables.{atSlot, slots_of, empty_at, allSlotsGood};
-ghost use Rattle.scan.specs.Word.{packed, clear, slotMask, Roomy, wordGood, ones, wordEmpty};
+ghost use Rattle.model.specs.Questions.{every, how_many};
+ghost use Rattle.model.specs.Tables.{at_slot, slots_of, empty_at, all_slots_good};
+ghost use Rattle.scan.specs.Word.{packed, clear, slot_mask, Roomy, word_good, ones, word_empty};
 
 use crate::word::{Seen, good_to_last, rooms_of, with_slot, word_within};
 
@@ -19,10 +19,10 @@ struct Tally {
 // The tally with one slot more, where three bytes follow it; by kind, one: what is counted.
 fn with_counted(tally: Tally, room: &[u64; 4], one: &[usize; 4], pool: &[u8], slot: usize) -> Tally
     requires { Roomy room.now × (slot * 5 + 8 ≤ length pool.now) × (one.now ≡ ones)
-        × (clear slotMask (bit_or tally.numbers tally.sums) ≡ every slot (λ i. wordGood room.now (atSlot 5 packed pool.now i)))
-        × (tally.empties ≡ howMany slot (λ i. wordEmpty (atSlot 5 packed pool.now i))) }
-    ensures { (clear slotMask (bit_or result.numbers result.sums) ≡ every (slot + 1) (λ i. wordGood room.now (atSlot 5 packed pool.now i)))
-        × (result.empties ≡ howMany (slot + 1) (λ i. wordEmpty (atSlot 5 packed pool.now i))) }
+        × (clear slot_mask (bit_or tally.numbers tally.sums) ≡ every slot (λ i. word_good room.now (at_slot 5 packed pool.now i)))
+        × (tally.empties ≡ how_many slot (λ i. word_empty (at_slot 5 packed pool.now i))) }
+    ensures { (clear slot_mask (bit_or result.numbers result.sums) ≡ every (slot + 1) (λ i. word_good room.now (at_slot 5 packed pool.now i)))
+        × (result.empties ≡ how_many (slot + 1) (λ i. word_empty (at_slot 5 packed pool.now i))) }
 {
     let before = Seen {
         numbers: tally.numbers,
@@ -41,8 +41,8 @@ fn with_counted(tally: Tally, room: &[u64; 4], one: &[usize; 4], pool: &[u8], sl
 // The tally of the first groups of four.
 fn groups_counted(room: &[u64; 4], one: &[usize; 4], pool: &[u8], groups: usize) -> Tally
     requires { Roomy room.now × (groups * 20 + 3 ≤ length pool.now) × (one.now ≡ ones) }
-    ensures { (clear slotMask (bit_or result.numbers result.sums) ≡ every (groups * 4) (λ i. wordGood room.now (atSlot 5 packed pool.now i)))
-        × (result.empties ≡ howMany (groups * 4) (λ i. wordEmpty (atSlot 5 packed pool.now i))) }
+    ensures { (clear slot_mask (bit_or result.numbers result.sums) ≡ every (groups * 4) (λ i. word_good room.now (at_slot 5 packed pool.now i)))
+        × (result.empties ≡ how_many (groups * 4) (λ i. word_empty (at_slot 5 packed pool.now i))) }
 {
     let mut tally = Tally {
         numbers: 0,
@@ -63,16 +63,16 @@ fn groups_counted(room: &[u64; 4], one: &[usize; 4], pool: &[u8], groups: usize)
 
 // The count of empty slots with one slot more.
 fn with_empty(count: usize, pool: &[u8], slot: usize) -> usize
-    requires { (slot < slots_of 5 pool.now) × (count ≡ howMany slot (empty_at 5 pool.now)) }
-    ensures { result ≡ howMany (slot + 1) (empty_at 5 pool.now) }
+    requires { (slot < slots_of 5 pool.now) × (count ≡ how_many slot (empty_at 5 pool.now)) }
+    ensures { result ≡ how_many (slot + 1) (empty_at 5 pool.now) }
 {
     count + ((pool[slot * 5] == 0) as usize)
 }
 
 // The count with the slots from a place on, one by one.
 fn with_rest(first: usize, pool: &[u8], from: usize) -> usize
-    requires { (from ≤ slots_of 5 pool.now) × (first ≡ howMany from (empty_at 5 pool.now)) }
-    ensures { result ≡ howMany (slots_of 5 pool.now) (empty_at 5 pool.now) }
+    requires { (from ≤ slots_of 5 pool.now) × (first ≡ how_many from (empty_at 5 pool.now)) }
+    ensures { result ≡ how_many (slots_of 5 pool.now) (empty_at 5 pool.now) }
 {
     let n = pool.len() / 5;
     let mut count = first;
@@ -94,8 +94,8 @@ pub struct Tested {
 // Both, of a pool.
 pub fn slots_tested(s: u8, g: usize, pool: &[u8]) -> Tested
     requires { (s ≤ 64) × (g ≤ 256) }
-    ensures good_value { result.good ≡ allSlotsGood 5 s g pool.now }
-    ensures empties_value { result.empties ≡ howMany (slots_of 5 pool.now) (empty_at 5 pool.now) when allSlotsGood 5 s g pool.now }
+    ensures good_value { result.good ≡ all_slots_good 5 s g pool.now }
+    ensures empties_value { result.empties ≡ how_many (slots_of 5 pool.now) (empty_at 5 pool.now) when all_slots_good 5 s g pool.now }
 {
     let n = pool.len() / 5;
     if n == 0 {

@@ -2,8 +2,8 @@
 ghost use Rattle.std.specs.Prelude.{◌≡◌, ◌+◌, ◌*◌, ◌≤◌, ◌<◌, length};
 ghost use Rattle.std.specs.Int.Bits.{bit_or};
 ghost use Rattle.model.specs.Questions.{every};
-ghost use Rattle.model.specs.Tables.{atSlot, slots_of, allSlotsGood};
-ghost use Rattle.scan.specs.Word.{packed, eight, eightAt, clear, slotMask, rooms, Roomy, wordGood};
+ghost use Rattle.model.specs.Tables.{at_slot, slots_of, all_slots_good};
+ghost use Rattle.scan.specs.Word.{packed, eight, eight_at, clear, slot_mask, rooms, Roomy, word_good};
 
 // Five fields as one number, the first lowest.
 fn pack(kind: u64, from: u64, to: u64, third: u64, pointer: u64) -> u64
@@ -45,7 +45,7 @@ fn wide(x: u8) -> u64
 // The eight bytes from a place on as one number.
 pub fn eight_at(bytes: &[u8], at: usize) -> u64
     requires { at + 8 ≤ length bytes.now }
-    ensures { result ≡ eightAt bytes.now at }
+    ensures { result ≡ eight_at bytes.now at }
 {
     pack_eight(
         wide(bytes[at]),
@@ -62,7 +62,7 @@ pub fn eight_at(bytes: &[u8], at: usize) -> u64
 // A slot as one number, where three bytes follow it: eight bytes are read, and the slot's five kept.
 pub(crate) fn word_within(pool: &[u8], slot: usize) -> u64
     requires { slot * 5 + 8 ≤ length pool.now }
-    ensures { (result ≡ atSlot 5 packed pool.now slot) × (result < 1099511627776) }
+    ensures { (result ≡ at_slot 5 packed pool.now slot) × (result < 1099511627776) }
 {
     eight_at(pool, slot * 5) % 0x100_0000_0000
 }
@@ -70,7 +70,7 @@ pub(crate) fn word_within(pool: &[u8], slot: usize) -> u64
 // A slot as one number, wherever it stands.
 fn word_at(pool: &[u8], slot: usize) -> u64
     requires { slot * 5 + 5 ≤ length pool.now }
-    ensures { (result ≡ atSlot 5 packed pool.now slot) × (result < 1099511627776) }
+    ensures { (result ≡ at_slot 5 packed pool.now slot) × (result < 1099511627776) }
 {
     let at = slot * 5;
     word_of(
@@ -101,7 +101,7 @@ pub fn rooms_of(s: u8, g: usize) -> [u64; 4]
 // A slot's number and what it becomes with the room of its kind, as one number.
 fn shown(room: &[u64; 4], x: u64) -> u64
     requires { (x < 1099511627776) × Roomy room.now }
-    ensures { clear slotMask result ≡ wordGood room.now x }
+    ensures { clear slot_mask result ≡ word_good room.now x }
 {
     x | (x + room[(x % 4) as usize])
 }
@@ -109,7 +109,7 @@ fn shown(room: &[u64; 4], x: u64) -> u64
 // What a slot shows, where three bytes follow it.
 fn shown_at(room: &[u64; 4], pool: &[u8], slot: usize) -> u64
     requires { Roomy room.now × (slot * 5 + 8 ≤ length pool.now) }
-    ensures { clear slotMask result ≡ wordGood room.now (atSlot 5 packed pool.now slot) }
+    ensures { clear slot_mask result ≡ word_good room.now (at_slot 5 packed pool.now slot) }
 {
     shown(room, word_within(pool, slot))
 }
@@ -124,8 +124,8 @@ pub struct Seen {
 // What is seen with one slot more, where three bytes follow it.
 pub(crate) fn with_slot(seen: Seen, room: &[u64; 4], pool: &[u8], slot: usize) -> Seen
     requires roomy { Roomy room.now × (slot * 5 + 8 ≤ length pool.now) }
-    requires sums_value { clear slotMask (bit_or seen.numbers seen.sums) ≡ every slot (λ i. wordGood room.now (atSlot 5 packed pool.now i)) }
-    ensures { clear slotMask (bit_or result.numbers result.sums) ≡ every (slot + 1) (λ i. wordGood room.now (atSlot 5 packed pool.now i)) }
+    requires sums_value { clear slot_mask (bit_or seen.numbers seen.sums) ≡ every slot (λ i. word_good room.now (at_slot 5 packed pool.now i)) }
+    ensures { clear slot_mask (bit_or result.numbers result.sums) ≡ every (slot + 1) (λ i. word_good room.now (at_slot 5 packed pool.now i)) }
 {
     let x = word_within(pool, slot);
     let numbers = seen.numbers | x;
@@ -136,7 +136,7 @@ pub(crate) fn with_slot(seen: Seen, room: &[u64; 4], pool: &[u8], slot: usize) -
 // What the slots of the first groups of four show.
 fn groups_shown(room: &[u64; 4], pool: &[u8], groups: usize) -> u64
     requires { Roomy room.now × (groups * 20 + 3 ≤ length pool.now) }
-    ensures { clear slotMask result ≡ every (groups * 4) (λ i. wordGood room.now (atSlot 5 packed pool.now i)) }
+    ensures { clear slot_mask result ≡ every (groups * 4) (λ i. word_good room.now (at_slot 5 packed pool.now i)) }
 {
     let mut seen = Seen {
         numbers: 0,
@@ -156,8 +156,8 @@ fn groups_shown(room: &[u64; 4], pool: &[u8], groups: usize) -> u64
 
 // What up to three slots more show, and those before.
 fn rest_shown(room: &[u64; 4], pool: &[u8], from: usize, to: usize, first: u64) -> u64
-    requires { Roomy room.now × (from ≤ to) × (to ≤ from + 3) × (to * 5 + 3 ≤ length pool.now) × (clear slotMask first ≡ every from (λ i. wordGood room.now (atSlot 5 packed pool.now i))) }
-    ensures { clear slotMask result ≡ every to (λ i. wordGood room.now (atSlot 5 packed pool.now i)) }
+    requires { Roomy room.now × (from ≤ to) × (to ≤ from + 3) × (to * 5 + 3 ≤ length pool.now) × (clear slot_mask first ≡ every from (λ i. word_good room.now (at_slot 5 packed pool.now i))) }
+    ensures { clear slot_mask result ≡ every to (λ i. word_good room.now (at_slot 5 packed pool.now i)) }
 {
     if to <= from {
         return first;
@@ -175,8 +175,8 @@ fn rest_shown(room: &[u64; 4], pool: &[u8], from: usize, to: usize, first: u64) 
 
 // Whether every slot is good, where the groups of four before the last slots are seen: a field above its limit carries into its top bit, or shows there by itself.
 pub(crate) fn good_to_last(room: &[u64; 4], pool: &[u8], groups: usize, first: u64) -> bool
-    requires { Roomy room.now × (groups * 4 + 1 ≤ slots_of 5 pool.now) × (slots_of 5 pool.now ≤ groups * 4 + 4) × (clear slotMask first ≡ every (groups * 4) (λ i. wordGood room.now (atSlot 5 packed pool.now i))) }
-    ensures { result ≡ every (slots_of 5 pool.now) (λ i. wordGood room.now (atSlot 5 packed pool.now i)) }
+    requires { Roomy room.now × (groups * 4 + 1 ≤ slots_of 5 pool.now) × (slots_of 5 pool.now ≤ groups * 4 + 4) × (clear slot_mask first ≡ every (groups * 4) (λ i. word_good room.now (at_slot 5 packed pool.now i))) }
+    ensures { result ≡ every (slots_of 5 pool.now) (λ i. word_good room.now (at_slot 5 packed pool.now i)) }
 {
     let last = pool.len() / 5 - 1;
     let most = rest_shown(room, pool, groups * 4, last, first);
@@ -187,7 +187,7 @@ pub(crate) fn good_to_last(room: &[u64; 4], pool: &[u8], groups: usize, first: u
 // Whether every slot is good.
 pub fn all_slots_good(s: u8, g: usize, pool: &[u8]) -> bool
     requires { (s ≤ 64) × (g ≤ 256) }
-    ensures { result ≡ allSlotsGood 5 s g pool.now }
+    ensures { result ≡ all_slots_good 5 s g pool.now }
 {
     let n = pool.len() / 5;
     if n == 0 {

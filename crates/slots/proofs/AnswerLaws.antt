@@ -5,13 +5,13 @@ use mathlib.Core.Logic.{◌≢◌}
 use lib.IntN.{ℤ, pos}
 use borrow.Author.Tests.{ne_eqb}
 use Rattle.model.specs.Layout.{Layout}
-use Rattle.model.specs.Survey.{shareNumber, share_of, share}
+use Rattle.model.specs.Survey.{share_number, share_of, share}
 
 module _ {D : Type 0} (L : Layout D) (d : D) (site p : ℕ) where
-  pub refused-share : {n : ℕ} → n ≢ 0 → n ≡ shareNumber L d site p → record { number = n; share = pos 0 } ≡ share L d site p
+  pub refused_share : {n : ℕ} → n ≢ 0 → n ≡ share_number L d site p → record { number = n; share = pos 0 } ≡ share L d site p
   unfolding share
-  refused-share {n} given e = rw (← e, ne_eqb n 0 given)
+  refused_share {n} given e = rw (← e, ne_eqb n 0 given)
 
-  pub accepted-share : {z : ℤ} → shareNumber L d site p ≡ 0 → z ≡ share_of L d site p → record { number = 0; share = z } ≡ share L d site p
+  pub accepted_share : {z : ℤ} → share_number L d site p ≡ 0 → z ≡ share_of L d site p → record { number = 0; share = z } ≡ share L d site p
   unfolding share
-  accepted-share e q = rw (e, q)
+  accepted_share e q = rw (e, q)

@@ -10,8 +10,8 @@ module _ (P : ℕ → Bool) (i : ℕ) where
   pub none_more : some i P ≡ false → P i ≡ false → some (i + 1) P ≡ false
   none_more e f = sym (some_more P i (sym e)) ∙ f
 
-pub none-four : (P : ℕ → Bool) (i : ℕ) → some i P ≡ false → P i ≡ false → P (i + 1) ≡ false → P (i + 2) ≡ false → P (i + 3) ≡ false → some (i + 4) P ≡ false
-none-four P i none no-1 no-2 no-3 no-4 =
+pub none_four : (P : ℕ → Bool) (i : ℕ) → some i P ≡ false → P i ≡ false → P (i + 1) ≡ false → P (i + 2) ≡ false → P (i + 3) ≡ false → some (i + 4) P ≡ false
+none_four P i none no-1 no-2 no-3 no-4 =
     let two : i + 1 + 1 ≡ i + 2 = omega arith in
     let three : i + 2 + 1 ≡ i + 3 = omega arith in
     let four : i + 3 + 1 ≡ i + 4 = omega arith in

@@ -36,16 +36,16 @@ module _ (plus minus : ℕ) (lp : plus < 2 ^ 31) (lm : minus < 2 ^ 31) where
   unfolding balance
   read_back = ap₂ (λ (x y : ℤ). x -ℤ y) (to_z_pos w32 plus lp) (to_z_pos w32 minus lm)
 
-  pub difference-fits : SFits w32 (to_z w32 plus -ℤ to_z w32 minus)
-  difference-fits = rw read_back (record { sfits = small (2 ^ 31) plus minus (side plus minus) lp lm })
+  pub difference_fits : SFits w32 (to_z w32 plus -ℤ to_z w32 minus)
+  difference_fits = rw read_back (record { sfits = small (2 ^ 31) plus minus (side plus minus) lp lm })
 
-  pub difference-as : to_z w32 (of_z w32 (to_z w32 plus -ℤ to_z w32 minus)) ≡ balance plus minus
-  difference-as = to_z-of_z w32 _ difference-fits ∙ read_back
+  pub difference_as : to_z w32 (of_z w32 (to_z w32 plus -ℤ to_z w32 minus)) ≡ balance plus minus
+  difference_as = to_z-of_z w32 _ difference_fits ∙ read_back
 
 -- ---- between two ends
 ends : (up down plus minus : ℕ) {z : ℤ} → Side plus minus z → plus ≤ up → minus ≤ suc down → (negsuc down ≤ℤ z) × (z ≤ℤ pos up)
 ends up down plus minus (above h) lp lm = (le_z_yes tt, le_z_yes (le→leb (plus - minus) up (omega arith)))
 ends up down plus minus (below h) lp lm = (le_z_yes (le→leb (minus - suc plus) down (omega arith)), le_z_yes tt)
 
-pub balance-between : (up down plus minus : ℕ) → plus ≤ up → minus ≤ suc down → (negsuc down ≤ℤ balance plus minus) × (balance plus minus ≤ℤ pos up)
-balance-between up down plus minus = ends up down plus minus (side plus minus)
+pub balance_between : (up down plus minus : ℕ) → plus ≤ up → minus ≤ suc down → (negsuc down ≤ℤ balance plus minus) × (balance plus minus ≤ℤ pos up)
+balance_between up down plus minus = ends up down plus minus (side plus minus)

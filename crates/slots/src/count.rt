@@ -1,7 +1,7 @@
 // What the pool counts in a share (Document 01, Share and sheet).
 ghost use Rattle.std.specs.Prelude.{◌≡◌, ◌+◌, ◌≤◌, ◌<◌};
-ghost use Rattle.model.specs.Tables.{slots_of, messageAt};
-ghost use Rattle.slots.specs.FirstSlots.{plusOf, minusOf};
+ghost use Rattle.model.specs.Tables.{slots_of, message_at};
+ghost use Rattle.slots.specs.FirstSlots.{plus_of, minus_of};
 
 use crate::slot::read_slot;
 use crate::weight::{minus, plus};
@@ -16,9 +16,9 @@ pub struct Counts {
 // The counts with one slot more; most slots are of another pointer, so that is asked first.
 fn with_slot(counts: Counts, pool: &[u8], slot: usize, site: u8, owner: u8, p: u8) -> Counts
     requires slot_bound { (slot < slots_of 5 pool.now) × (slots_of 5 pool.now ≤ 1024) }
-    requires plus_value { (counts.plus ≡ plusOf (messageAt 5 pool.now) slot site owner p) × (counts.minus ≡ minusOf (messageAt 5 pool.now) slot site owner p) }
-    ensures plus_value_2 { result.plus ≡ plusOf (messageAt 5 pool.now) (slot + 1) site owner p }
-    ensures minus_value { result.minus ≡ minusOf (messageAt 5 pool.now) (slot + 1) site owner p }
+    requires plus_value { (counts.plus ≡ plus_of (message_at 5 pool.now) slot site owner p) × (counts.minus ≡ minus_of (message_at 5 pool.now) slot site owner p) }
+    ensures plus_value_2 { result.plus ≡ plus_of (message_at 5 pool.now) (slot + 1) site owner p }
+    ensures minus_value { result.minus ≡ minus_of (message_at 5 pool.now) (slot + 1) site owner p }
 {
     if pool[slot * 5 + 4] != p {
         return counts;
@@ -35,9 +35,9 @@ fn with_slot(counts: Counts, pool: &[u8], slot: usize, site: u8, owner: u8, p: u
 // The slots from a place on, one by one.
 fn count_rest(first: Counts, pool: &[u8], from: usize, site: u8, owner: u8, p: u8) -> Counts
     requires from_bound { (from ≤ slots_of 5 pool.now) × (slots_of 5 pool.now ≤ 1024) }
-    requires plus_value { (first.plus ≡ plusOf (messageAt 5 pool.now) from site owner p) × (first.minus ≡ minusOf (messageAt 5 pool.now) from site owner p) }
-    ensures plus_value_2 { result.plus ≡ plusOf (messageAt 5 pool.now) (slots_of 5 pool.now) site owner p }
-    ensures minus_value { result.minus ≡ minusOf (messageAt 5 pool.now) (slots_of 5 pool.now) site owner p }
+    requires plus_value { (first.plus ≡ plus_of (message_at 5 pool.now) from site owner p) × (first.minus ≡ minus_of (message_at 5 pool.now) from site owner p) }
+    ensures plus_value_2 { result.plus ≡ plus_of (message_at 5 pool.now) (slots_of 5 pool.now) site owner p }
+    ensures minus_value { result.minus ≡ minus_of (message_at 5 pool.now) (slots_of 5 pool.now) site owner p }
 {
     let n = pool.len() / 5;
     let mut counts = first;
@@ -52,8 +52,8 @@ fn count_rest(first: Counts, pool: &[u8], from: usize, site: u8, owner: u8, p: u
 // One pass over the pool, four slots a turn.
 pub fn count(pool: &[u8], site: u8, owner: u8, p: u8) -> Counts
     requires { slots_of 5 pool.now ≤ 1024 }
-    ensures plus_value { result.plus ≡ plusOf (messageAt 5 pool.now) (slots_of 5 pool.now) site owner p }
-    ensures minus_value { result.minus ≡ minusOf (messageAt 5 pool.now) (slots_of 5 pool.now) site owner p }
+    ensures plus_value { result.plus ≡ plus_of (message_at 5 pool.now) (slots_of 5 pool.now) site owner p }
+    ensures minus_value { result.minus ≡ minus_of (message_at 5 pool.now) (slots_of 5 pool.now) site owner p }
 {
     let turns = pool.len() / 20;
     let mut counts = Counts { plus: 0, minus: 0 };

@@ -1,15 +1,15 @@
 // What the pool enters in a sheet (Document 01, Share and sheet).
 ghost use Rattle.std.specs.Prelude.{◌≡◌, ℕ, ◌+◌, ◌≤◌, ◌<◌};
-ghost use Rattle.model.specs.Tables.{slots_of, messageAt};
-ghost use Rattle.model.specs.Survey.{column as columnOf, blankSheet};
-ghost use Rattle.slots.specs.FirstSlots.{entries as entriesOf};
+ghost use Rattle.model.specs.Tables.{slots_of, message_at};
+ghost use Rattle.model.specs.Survey.{column as column_of, blank_sheet};
+ghost use Rattle.slots.specs.FirstSlots.{entries as entries_of};
 
 use crate::entry::{amount, column, row};
 use crate::slot::read_slot;
 
 // Three rows of 64 zeros.
 pub fn blank() -> [[u32; 64]; 3]
-    ensures { result ≡ blankSheet }
+    ensures { result ≡ blank_sheet }
 {
     let zeros = [0u32; 64];
     [zeros; 3]
@@ -17,9 +17,9 @@ pub fn blank() -> [[u32; 64]; 3]
 
 // One slot more, in the row of its kind and its column; most slots are of another pointer, so that is asked first.
 fn enter(rows: &mut [[u32; 64]; 3], pool: &[u8], slot: usize, p: u8)
-    requires slot_bound { (slot < slots_of 5 pool.now) × (slots_of 5 pool.now ≤ 1024) × (columnOf (messageAt 5 pool.now slot) < 64) }
-    requires rows_value { rows.old ≡ entriesOf (messageAt 5 pool.now) p slot }
-    ensures { rows.new ≡ entriesOf (messageAt 5 pool.now) p (slot + 1) }
+    requires slot_bound { (slot < slots_of 5 pool.now) × (slots_of 5 pool.now ≤ 1024) × (column_of (message_at 5 pool.now slot) < 64) }
+    requires rows_value { rows.old ≡ entries_of (message_at 5 pool.now) p slot }
+    ensures { rows.new ≡ entries_of (message_at 5 pool.now) p (slot + 1) }
 {
     if pool[slot * 5 + 4] != p {
         return;
@@ -33,9 +33,9 @@ fn enter(rows: &mut [[u32; 64]; 3], pool: &[u8], slot: usize, p: u8)
 // The slots from a place on, one by one.
 fn enter_rest(rows: &mut [[u32; 64]; 3], pool: &[u8], from: usize, p: u8)
     requires from_bound { (from ≤ slots_of 5 pool.now) × (slots_of 5 pool.now ≤ 1024) }
-    requires by_index { (slot : ℕ) → slot < slots_of 5 pool.now → columnOf (messageAt 5 pool.now slot) < 64 }
-    requires rows_value { rows.old ≡ entriesOf (messageAt 5 pool.now) p from }
-    ensures { rows.new ≡ entriesOf (messageAt 5 pool.now) p (slots_of 5 pool.now) }
+    requires by_index { (slot : ℕ) → slot < slots_of 5 pool.now → column_of (message_at 5 pool.now slot) < 64 }
+    requires rows_value { rows.old ≡ entries_of (message_at 5 pool.now) p from }
+    ensures { rows.new ≡ entries_of (message_at 5 pool.now) p (slots_of 5 pool.now) }
 {
     let n = pool.len() / 5;
     let mut i = from;
@@ -48,8 +48,8 @@ fn enter_rest(rows: &mut [[u32; 64]; 3], pool: &[u8], from: usize, p: u8)
 // One pass over the pool, four slots a turn: each message of the pointer, in the row of its kind and its column.
 pub fn entries(pool: &[u8], p: u8) -> [[u32; 64]; 3]
     requires pool_bound { slots_of 5 pool.now ≤ 1024 }
-    requires by_index { (slot : ℕ) → slot < slots_of 5 pool.now → columnOf (messageAt 5 pool.now slot) < 64 }
-    ensures { result ≡ entriesOf (messageAt 5 pool.now) p (slots_of 5 pool.now) }
+    requires by_index { (slot : ℕ) → slot < slots_of 5 pool.now → column_of (message_at 5 pool.now slot) < 64 }
+    ensures { result ≡ entries_of (message_at 5 pool.now) p (slots_of 5 pool.now) }
 {
     let turns = pool.len() / 20;
     let mut rows = blank();

@@ -1,8 +1,8 @@
 // Where and how much one message is entered in the sheet: scalars and the message alone, no table (Document 01, Share and sheet).
 ghost use Rattle.std.specs.Prelude.{◌≡◌, ◌-◌};
 ghost use Rattle.model.specs.Messages.{kind_of};
-ghost use Rattle.model.specs.Survey.{column as columnOf};
-ghost use Rattle.slots.specs.FirstSlots.{amount as amountOf};
+ghost use Rattle.model.specs.Survey.{column as column_of};
+ghost use Rattle.slots.specs.FirstSlots.{amount as amount_of};
 
 use crate::weight::one_if;
 use model::Posted;
@@ -21,7 +21,7 @@ pub fn row(m: Posted) -> usize
 
 // The column of a message: the site whose counter it acts on (Document 02, Two).
 pub fn column(m: Posted) -> u8
-    ensures { result ≡ columnOf m }
+    ensures { result ≡ column_of m }
 {
     match m {
         Posted::Copy { from, .. } => from,
@@ -33,7 +33,7 @@ pub fn column(m: Posted) -> u8
 
 // How much it counts there: 1 where it is a message of pointer p.
 pub fn amount(p: u8, m: Posted) -> u32
-    ensures { result ≡ amountOf p m }
+    ensures { result ≡ amount_of p m }
 {
     match m {
         Posted::Copy { pointer, .. } => one_if(pointer == p),

@@ -1,9 +1,9 @@
 // Held: 9 (Document 01, Why a call is turned down).
 ghost use Rattle.std.specs.Prelude.{◌≡◌, false, ◌+◌, ◌*◌, ◌≤◌, length};
 ghost use Rattle.model.specs.Questions.{some};
-ghost use Rattle.model.specs.Messages.{isIncDec};
-ghost use Rattle.model.specs.Tables.{slots_of, messageAt};
-ghost use Rattle.model.specs.Calls.{heldRefusal};
+ghost use Rattle.model.specs.Messages.{is_inc_dec};
+ghost use Rattle.model.specs.Tables.{slots_of, message_at};
+ghost use Rattle.model.specs.Calls.{held_refusal};
 
 use crate::slot::read_slot;
 use model::Posted;
@@ -13,7 +13,7 @@ use rules::refusal::when;
 // Whether a slot holds an INC_DEC from a to b for pointer p; most slots are of another pointer, so that is asked first.
 fn holds(pool: &[u8], slot: usize, a: u8, b: u8, p: u8) -> bool
     requires { slot * 5 + 5 ≤ length pool.now }
-    ensures { result ≡ isIncDec a b p (messageAt 5 pool.now slot) }
+    ensures { result ≡ is_inc_dec a b p (message_at 5 pool.now slot) }
 {
     if pool[slot * 5 + 4] != p {
         return false;
@@ -23,8 +23,8 @@ fn holds(pool: &[u8], slot: usize, a: u8, b: u8, p: u8) -> bool
 
 // The slots from a place on, one by one, where none before it holds one.
 fn held_from(pool: &[u8], from: usize, a: u8, b: u8, p: u8) -> bool
-    requires { (from ≤ slots_of 5 pool.now) × (some from (λ slot. isIncDec a b p (messageAt 5 pool.now slot)) ≡ false) }
-    ensures { result ≡ some (slots_of 5 pool.now) (λ slot. isIncDec a b p (messageAt 5 pool.now slot)) }
+    requires { (from ≤ slots_of 5 pool.now) × (some from (λ slot. is_inc_dec a b p (message_at 5 pool.now slot)) ≡ false) }
+    ensures { result ≡ some (slots_of 5 pool.now) (λ slot. is_inc_dec a b p (message_at 5 pool.now slot)) }
 {
     let n = pool.len() / 5;
     let mut i = from;
@@ -39,7 +39,7 @@ fn held_from(pool: &[u8], from: usize, a: u8, b: u8, p: u8) -> bool
 
 // Whether some slot holds an INC_DEC from a to b for pointer p, with any third site; four slots a turn.
 fn held(pool: &[u8], a: u8, b: u8, p: u8) -> bool
-    ensures { result ≡ some (slots_of 5 pool.now) (λ slot. isIncDec a b p (messageAt 5 pool.now slot)) }
+    ensures { result ≡ some (slots_of 5 pool.now) (λ slot. is_inc_dec a b p (message_at 5 pool.now slot)) }
 {
     let turns = pool.len() / 20;
     let mut t = 0;
@@ -64,7 +64,7 @@ fn held(pool: &[u8], a: u8, b: u8, p: u8) -> bool
 
 // 9 for a DEC that an INC_DEC from its sender to its receiver holds back; for no other kind is the pool scanned.
 pub fn held_refusal(pool: &[u8], m: Posted) -> u8
-    ensures { result ≡ heldRefusal (slots_of 5 pool.now) (messageAt 5 pool.now) m }
+    ensures { result ≡ held_refusal (slots_of 5 pool.now) (message_at 5 pool.now) m }
 {
     match m {
         Posted::Copy { .. } => 0,

@@ -1,15 +1,15 @@
 // Slots of the pool: kind, from, to, third, pointer (Document 01, What the host lends).
 ghost use Rattle.std.specs.Prelude.{◌≡◌, [], ◌∷◌, ◌+◌, ◌*◌, ◌≤◌, length};
 ghost use Rattle.std.proofs.lemmas.List.Edits.{sets};
-ghost use Rattle.model.specs.Messages.{slot_of, messageOf};
-ghost use Rattle.model.specs.Tables.{messageAt};
+ghost use Rattle.model.specs.Messages.{slot_of, message_of};
+ghost use Rattle.model.specs.Tables.{message_at};
 
 use model::Posted;
 use rules::message::slot_bytes;
 
 // Slot bytes as a message; a kind above 3 is none.
 pub fn message_of(kind: u8, from: u8, to: u8, third: u8, pointer: u8) -> Posted
-    ensures { result ≡ messageOf kind from to third pointer }
+    ensures { result ≡ message_of kind from to third pointer }
 {
     match kind {
         1 => Posted::Copy { from, to, pointer },
@@ -27,7 +27,7 @@ pub fn message_of(kind: u8, from: u8, to: u8, third: u8, pointer: u8) -> Posted
 // The message of a slot of the pool.
 pub fn read_slot(pool: &[u8], slot: usize) -> Posted
     requires { slot * 5 + 5 ≤ length pool.now }
-    ensures { result ≡ messageAt 5 pool.now slot }
+    ensures { result ≡ message_at 5 pool.now slot }
 {
     let at = slot * 5;
     message_of(

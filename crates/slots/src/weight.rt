@@ -1,7 +1,7 @@
 // What one message counts in a share: scalars and the message alone, no table (Document 01, Share and sheet).
 ghost use Rattle.std.specs.Prelude.{◌≡◌, ◌+◌, ◌<◌};
 ghost use Rattle.model.specs.Refusals.{◌when◌};
-ghost use Rattle.model.specs.Survey.{copies, decs, incDecs, balance as balanceOf};
+ghost use Rattle.model.specs.Survey.{copies, decs, inc_decs, balance as balance_of};
 
 use model::Posted;
 
@@ -33,7 +33,7 @@ pub fn plus(site: u8, owner: u8, p: u8, m: Posted) -> u32
 
 // Minus: an INC_DEC from the site to the owner, with any third site.
 pub fn minus(site: u8, owner: u8, p: u8, m: Posted) -> u32
-    ensures { result ≡ incDecs site owner p m }
+    ensures { result ≡ inc_decs site owner p m }
 {
     match m {
         Posted::Copy { .. } => 0,
@@ -51,7 +51,7 @@ pub fn minus(site: u8, owner: u8, p: u8, m: Posted) -> u32
 // Plus less minus, one signed whole number.
 pub fn balance(plus: u32, minus: u32) -> i32
     requires { (plus < 2147483648) × (minus < 2147483648) }
-    ensures { result ≡ balanceOf plus minus }
+    ensures { result ≡ balance_of plus minus }
 {
     (plus as i32) - (minus as i32)
 }

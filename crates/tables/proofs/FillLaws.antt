@@ -25,15 +25,15 @@ filled_more {wanted} {before} {later} i value default l e f =
       front = rw add-one (take-suc-set later i value l ∙ rw (f.front, e) (sym (take-suc wanted i default (omega arith))));
     }
 
-pub filled-all : {wanted before later : List ℕ} (i : ℕ) → length before ≤ i → Filled wanted before later i → later ≡ wanted
-filled-all {wanted} {before} {later} i l f = sym (take_all i later (omega arith)) ∙ f.front ∙ take_all i wanted (omega arith)
+pub filled_all : {wanted before later : List ℕ} (i : ℕ) → length before ≤ i → Filled wanted before later i → later ≡ wanted
+filled_all {wanted} {before} {later} i l f = sym (take_all i later (omega arith)) ∙ f.front ∙ take_all i wanted (omega arith)
 
 -- ---- a list of zeros
 abbrev pub Zeroed : List ℕ → List ℕ → ℕ → Type 0
 Zeroed before later i = Filled (replicate (length before) 0) before later i
 
-pub zeroed-none : (before : List ℕ) → Zeroed before before 0
-zeroed-none before = filled_none (replicate (length before) 0) before (length-replicate (length before) 0)
+pub zeroed_none : (before : List ℕ) → Zeroed before before 0
+zeroed_none before = filled_none (replicate (length before) 0) before (length-replicate (length before) 0)
 
-pub zeroed-more : (before later : List ℕ) (i : ℕ) → i < length later → Zeroed before later i → Zeroed before (set later i 0) (i + 1)
-zeroed-more before later i l f = filled_more i 0 0 l (sym (get_or-replicate (length before) i 0 0 (omega arith))) f
+pub zeroed_more : (before later : List ℕ) (i : ℕ) → i < length later → Zeroed before later i → Zeroed before (set later i 0) (i + 1)
+zeroed_more before later i l f = filled_more i 0 0 l (sym (get_or-replicate (length before) i 0 0 (omega arith))) f

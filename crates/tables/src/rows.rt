@@ -1,6 +1,6 @@
 // The receive table of an opening, row by row (Document 01, What the host lends).
 ghost use Rattle.std.specs.Prelude.{◌≡◌, ◌*◌, ◌≤◌, length};
-ghost use Rattle.model.specs.Tables.{own_row, ownRows};
+ghost use Rattle.model.specs.Tables.{own_row, own_rows};
 
 // The row of a site: 1 for each pointer that it owns, 0 for the others.
 fn write_row(site: u8, owners: &[u8], row: &mut [u8])
@@ -17,7 +17,7 @@ fn write_row(site: u8, owners: &[u8], row: &mut [u8])
 // The rows of all sites.
 pub fn write_rows(s: u8, owners: &[u8], cells: &mut [u8])
     requires { (s ≤ 64) × (length owners.now ≤ 256) × (length cells.old ≡ s * length owners.now) }
-    ensures { cells.new ≡ ownRows s owners.now }
+    ensures { cells.new ≡ own_rows s owners.now }
 {
     let g = owners.len();
     let mut at = 0;

@@ -1,17 +1,17 @@
 // BadShape: S, G, a length or the slot count (Document 01, What the host lends).
 ghost use Rattle.std.specs.Prelude.{◌≡◌};
-ghost use Rattle.model.specs.Tables.{sizesGood, shapeGood};
+ghost use Rattle.model.specs.Tables.{sizes_good, shape_good};
 
 // S is 1 to 64, G is 0 to 256.
 pub fn sizes_good(s: u8, g: usize) -> bool
-    ensures { result ≡ sizesGood s g }
+    ensures { result ≡ sizes_good s g }
 {
     (1 <= s) & (s <= 64) & (g <= 256)
 }
 
 // Sizes, and the three lengths that follow from them and the slot count.
 pub fn shape_good(s: u8, g: usize, sends: usize, receives: usize, pools: usize) -> bool
-    ensures { result ≡ shapeGood s g sends receives pools }
+    ensures { result ≡ shape_good s g sends receives pools }
 {
     if !sizes_good(s, g) {
         return false;

@@ -1,11 +1,11 @@
 -- A slot of seven bytes as one number, of which the last two bytes are looked at where the slot is empty.
 use Rattle.std.specs.Prelude.{ℕ, ◌+◌, ◌*◌, ◌%◌, ◌<◌, Bool, ◌&&◌, List, [], ◌∷◌, get_or}
 use Rattle.std.specs.Int.Bits.{bit_and}
-use Rattle.scan.specs.Word.{eight, eightAt, clear, rooms, wordEmpty}
+use Rattle.scan.specs.Word.{eight, eight_at, clear, rooms, word_empty}
 
 -- the seven bytes of slot i of a pool, the first lowest
-abbrev pub sevenAt : List ℕ → ℕ → ℕ
-sevenAt pool i =
+abbrev pub seven_at : List ℕ → ℕ → ℕ
+seven_at pool i =
     eight (get_or pool (i * 7) 0) (get_or pool (i * 7 + 1) 0) (get_or pool (i * 7 + 2) 0) (get_or pool (i * 7 + 3) 0)
     (get_or pool (i * 7 + 4) 0) (get_or pool (i * 7 + 5) 0) (get_or pool (i * 7 + 6) 0) 0
 
@@ -14,12 +14,12 @@ abbrev pub keeps : List ℕ
 keeps = 72057594037927935 ∷ 1099511627775 ∷ 1099511627775 ∷ 1099511627775 ∷ []
 
 -- 0x1000100808080FC: the bits that a slot of five bytes must not show, and the one above seven bytes
-abbrev pub wideMask : ℕ
-wideMask = 72058695705460988
+abbrev pub wide_mask : ℕ
+wide_mask = 72058695705460988
 
 -- by kind, what may be added: as for five bytes, and 65,534 to the last two of an empty slot, which then show in their lowest bit or above them
-abbrev pub wideRooms : ℕ → ℕ → List ℕ
-wideRooms s g = (get_or (rooms s g) 0 0 + 65534 * 1099511627776) ∷ get_or (rooms s g) 1 0 ∷ get_or (rooms s g) 2 0 ∷ get_or (rooms s g) 3 0 ∷ []
+abbrev pub wide_rooms : ℕ → ℕ → List ℕ
+wide_rooms s g = (get_or (rooms s g) 0 0 + 65534 * 1099511627776) ∷ get_or (rooms s g) 1 0 ∷ get_or (rooms s g) 2 0 ∷ get_or (rooms s g) 3 0 ∷ []
 
 -- rooms that can be added to seven bytes within 64 bits
 abbrev pub WideRoomy : List ℕ → Type 0
@@ -30,13 +30,13 @@ abbrev pub looked : ℕ → ℕ
 looked x = bit_and x (get_or keeps (x % 4) 0)
 
 -- the test of a slot as one number: what is looked at is clear, and with the room of its kind too
-abbrev pub wideGood : List ℕ → ℕ → Bool
-wideGood room x = clear wideMask (looked x) && clear wideMask (looked x + get_or room (x % 4) 0)
+abbrev pub wide_good : List ℕ → ℕ → Bool
+wide_good room x = clear wide_mask (looked x) && clear wide_mask (looked x + get_or room (x % 4) 0)
 
 -- the test of slot i of a pool
-abbrev pub sevenGood : List ℕ → List ℕ → ℕ → Bool
-sevenGood room pool i = wideGood room (sevenAt pool i)
+abbrev pub seven_good : List ℕ → List ℕ → ℕ → Bool
+seven_good room pool i = wide_good room (seven_at pool i)
 
 -- whether slot i is counted as empty; the byte that follows it comes in above
-abbrev pub sevenEmpty : List ℕ → ℕ → Bool
-sevenEmpty pool i = wordEmpty (eightAt pool (i * 7))
+abbrev pub seven_empty : List ℕ → ℕ → Bool
+seven_empty pool i = word_empty (eight_at pool (i * 7))

@@ -2,11 +2,11 @@
 ghost use Rattle.std.specs.Prelude.{◌≡◌, ◌&&◌, ◌+◌, ◌*◌, ◌≤◌, ◌<◌, length};
 ghost use Rattle.std.specs.Int.Bits.{bit_or};
 ghost use Rattle.model.specs.Refusals.{◌when◌};
-ghost use Rattle.model.specs.Questions.{every, howMany};
-ghost use Rattle.model.specs.Tables.{slots_of, empty_at, allSlotsGood};
-ghost use Rattle.in_order.specs.Ordered.{allNumbersGood};
+ghost use Rattle.model.specs.Questions.{every, how_many};
+ghost use Rattle.model.specs.Tables.{slots_of, empty_at, all_slots_good};
+ghost use Rattle.in_order.specs.Ordered.{all_numbers_good};
 ghost use Rattle.scan.specs.Word.{clear, ones};
-ghost use Rattle.wide.specs.Wide.{keeps, wideMask, WideRoomy, sevenGood, sevenEmpty};
+ghost use Rattle.wide.specs.Wide.{keeps, wide_mask, WideRoomy, seven_good, seven_empty};
 
 use crate::word::{good_to_last, kept_bits, wide_rooms, with_slot, word_within};
 use scan::counted::Tested;
@@ -30,10 +30,10 @@ fn with_counted(
     slot: usize,
 ) -> Tally
     requires { (keep.now ≡ keeps) × WideRoomy room.now × (slot * 7 + 8 ≤ length pool.now) × (one.now ≡ ones)
-        × (clear wideMask (bit_or tally.numbers tally.sums) ≡ every slot (sevenGood room.now pool.now))
-        × (tally.empties ≡ howMany slot (sevenEmpty pool.now)) }
-    ensures { (clear wideMask (bit_or result.numbers result.sums) ≡ every (slot + 1) (sevenGood room.now pool.now))
-        × (result.empties ≡ howMany (slot + 1) (sevenEmpty pool.now)) }
+        × (clear wide_mask (bit_or tally.numbers tally.sums) ≡ every slot (seven_good room.now pool.now))
+        × (tally.empties ≡ how_many slot (seven_empty pool.now)) }
+    ensures { (clear wide_mask (bit_or result.numbers result.sums) ≡ every (slot + 1) (seven_good room.now pool.now))
+        × (result.empties ≡ how_many (slot + 1) (seven_empty pool.now)) }
 {
     let before = Seen {
         numbers: tally.numbers,
@@ -58,8 +58,8 @@ fn groups_counted(
     groups: usize,
 ) -> Tally
     requires { (keep.now ≡ keeps) × WideRoomy room.now × (groups * 28 + 1 ≤ length pool.now) × (one.now ≡ ones) }
-    ensures { (clear wideMask (bit_or result.numbers result.sums) ≡ every (groups * 4) (sevenGood room.now pool.now))
-        × (result.empties ≡ howMany (groups * 4) (sevenEmpty pool.now)) }
+    ensures { (clear wide_mask (bit_or result.numbers result.sums) ≡ every (groups * 4) (seven_good room.now pool.now))
+        × (result.empties ≡ how_many (groups * 4) (seven_empty pool.now)) }
 {
     let mut tally = Tally {
         numbers: 0,
@@ -80,16 +80,16 @@ fn groups_counted(
 
 // The count of empty slots with one slot more.
 fn with_empty(count: usize, pool: &[u8], slot: usize) -> usize
-    requires { (slot < slots_of 7 pool.now) × (count ≡ howMany slot (empty_at 7 pool.now)) }
-    ensures { result ≡ howMany (slot + 1) (empty_at 7 pool.now) }
+    requires { (slot < slots_of 7 pool.now) × (count ≡ how_many slot (empty_at 7 pool.now)) }
+    ensures { result ≡ how_many (slot + 1) (empty_at 7 pool.now) }
 {
     count + ((pool[slot * 7] == 0) as usize)
 }
 
 // The count with the slots from a place on, one by one.
 fn with_rest(first: usize, pool: &[u8], from: usize) -> usize
-    requires { (from ≤ slots_of 7 pool.now) × (first ≡ howMany from (empty_at 7 pool.now)) }
-    ensures { result ≡ howMany (slots_of 7 pool.now) (empty_at 7 pool.now) }
+    requires { (from ≤ slots_of 7 pool.now) × (first ≡ how_many from (empty_at 7 pool.now)) }
+    ensures { result ≡ how_many (slots_of 7 pool.now) (empty_at 7 pool.now) }
 {
     let n = pool.len() / 7;
     let mut count = first;
@@ -104,9 +104,9 @@ fn with_rest(first: usize, pool: &[u8], from: usize) -> usize
 // Whether every slot of a pool is good, and then how many are empty.
 pub fn slots_tested(s: u8, g: usize, pool: &[u8]) -> Tested
     requires { (s ≤ 64) × (g ≤ 256) }
-    ensures good_value { result.good ≡ (allSlotsGood 7 s g pool.now && allNumbersGood pool.now) }
-    ensures empties_value { result.empties ≡ howMany (slots_of 7 pool.now) (empty_at 7 pool.now)
-        when (allSlotsGood 7 s g pool.now && allNumbersGood pool.now) }
+    ensures good_value { result.good ≡ (all_slots_good 7 s g pool.now && all_numbers_good pool.now) }
+    ensures empties_value { result.empties ≡ how_many (slots_of 7 pool.now) (empty_at 7 pool.now)
+        when (all_slots_good 7 s g pool.now && all_numbers_good pool.now) }
 {
     let n = pool.len() / 7;
     if n == 0 {

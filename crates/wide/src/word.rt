@@ -2,17 +2,17 @@
 ghost use Rattle.std.specs.Prelude.{◌≡◌, ◌&&◌, ◌+◌, ◌*◌, ◌≤◌, ◌<◌, length};
 ghost use Rattle.std.specs.Int.Bits.{bit_or};
 ghost use Rattle.model.specs.Questions.{every};
-ghost use Rattle.model.specs.Tables.{slots_of, allSlotsGood};
-ghost use Rattle.in_order.specs.Ordered.{allNumbersGood};
-ghost use Rattle.scan.specs.Word.{eightAt, clear};
-ghost use Rattle.wide.specs.Wide.{sevenAt, keeps, wideMask, wideRooms, WideRoomy, wideGood, sevenGood};
+ghost use Rattle.model.specs.Tables.{slots_of, all_slots_good};
+ghost use Rattle.in_order.specs.Ordered.{all_numbers_good};
+ghost use Rattle.scan.specs.Word.{eight_at, clear};
+ghost use Rattle.wide.specs.Wide.{seven_at, keeps, wide_mask, wide_rooms, WideRoomy, wide_good, seven_good};
 
 use scan::word::{Seen, eight_at, pack_eight, rooms_of};
 
 // A slot as one number, where a byte follows it, which comes in above: one read.
 pub(crate) fn word_within(pool: &[u8], slot: usize) -> u64
     requires { slot * 7 + 8 ≤ length pool.now }
-    ensures { result ≡ eightAt pool.now (slot * 7) }
+    ensures { result ≡ eight_at pool.now (slot * 7) }
 {
     eight_at(pool, slot * 7)
 }
@@ -27,7 +27,7 @@ fn field(x: u8) -> u64
 // A slot as one number, wherever it stands.
 fn word_at(pool: &[u8], slot: usize) -> u64
     requires { slot * 7 + 7 ≤ length pool.now }
-    ensures { result ≡ sevenAt pool.now slot }
+    ensures { result ≡ seven_at pool.now slot }
 {
     let at = slot * 7;
     pack_eight(
@@ -45,7 +45,7 @@ fn word_at(pool: &[u8], slot: usize) -> u64
 // By kind, what may be added to what is looked at before a field reaches its top bit.
 pub(crate) fn wide_rooms(s: u8, g: usize) -> [u64; 4]
     requires { (s ≤ 64) × (g ≤ 256) }
-    ensures { result ≡ wideRooms s g }
+    ensures { result ≡ wide_rooms s g }
 {
     let room = rooms_of(s, g);
     [room[0] + 65534 * 0x100_0000_0000, room[1], room[2], room[3]]
@@ -62,7 +62,7 @@ pub(crate) fn kept_bits() -> [u64; 4]
 // What is looked at of a slot, and what it becomes with the room of its kind, as one number.
 fn shown(keep: &[u64; 4], room: &[u64; 4], x: u64) -> u64
     requires { (keep.now ≡ keeps) × WideRoomy room.now }
-    ensures { clear wideMask result ≡ wideGood room.now x }
+    ensures { clear wide_mask result ≡ wide_good room.now x }
 {
     let k = (x % 4) as usize;
     let y = x & keep[k];
@@ -72,7 +72,7 @@ fn shown(keep: &[u64; 4], room: &[u64; 4], x: u64) -> u64
 // What a slot shows, where a byte follows it.
 fn shown_at(keep: &[u64; 4], room: &[u64; 4], pool: &[u8], slot: usize) -> u64
     requires { (keep.now ≡ keeps) × WideRoomy room.now × (slot * 7 + 8 ≤ length pool.now) }
-    ensures { clear wideMask result ≡ sevenGood room.now pool.now slot }
+    ensures { clear wide_mask result ≡ seven_good room.now pool.now slot }
 {
     shown(keep, room, word_within(pool, slot))
 }
@@ -86,8 +86,8 @@ pub(crate) fn with_slot(
     slot: usize,
 ) -> Seen
     requires keep_value { (keep.now ≡ keeps) × WideRoomy room.now × (slot * 7 + 8 ≤ length pool.now) }
-    requires sums_value { clear wideMask (bit_or seen.numbers seen.sums) ≡ every slot (sevenGood room.now pool.now) }
-    ensures { clear wideMask (bit_or result.numbers result.sums) ≡ every (slot + 1) (sevenGood room.now pool.now) }
+    requires sums_value { clear wide_mask (bit_or seen.numbers seen.sums) ≡ every slot (seven_good room.now pool.now) }
+    ensures { clear wide_mask (bit_or result.numbers result.sums) ≡ every (slot + 1) (seven_good room.now pool.now) }
 {
     let x = word_within(pool, slot);
     let k = (x % 4) as usize;
@@ -100,7 +100,7 @@ pub(crate) fn with_slot(
 // What the slots of the first groups of four show.
 fn groups_shown(keep: &[u64; 4], room: &[u64; 4], pool: &[u8], groups: usize) -> u64
     requires { (keep.now ≡ keeps) × WideRoomy room.now × (groups * 28 + 1 ≤ length pool.now) }
-    ensures { clear wideMask result ≡ every (groups * 4) (sevenGood room.now pool.now) }
+    ensures { clear wide_mask result ≡ every (groups * 4) (seven_good room.now pool.now) }
 {
     let mut seen = Seen {
         numbers: 0,
@@ -128,8 +128,8 @@ fn rest_shown(
     first: u64,
 ) -> u64
     requires { (keep.now ≡ keeps) × WideRoomy room.now × (from ≤ to) × (to ≤ from + 3) × (to * 7 + 1 ≤ length pool.now)
-        × (clear wideMask first ≡ every from (sevenGood room.now pool.now)) }
-    ensures { clear wideMask result ≡ every to (sevenGood room.now pool.now) }
+        × (clear wide_mask first ≡ every from (seven_good room.now pool.now)) }
+    ensures { clear wide_mask result ≡ every to (seven_good room.now pool.now) }
 {
     if to <= from {
         return first;
@@ -154,8 +154,8 @@ pub(crate) fn good_to_last(
     first: u64,
 ) -> bool
     requires { (keep.now ≡ keeps) × WideRoomy room.now × (groups * 4 + 1 ≤ slots_of 7 pool.now) × (slots_of 7 pool.now ≤ groups * 4 + 4)
-        × (clear wideMask first ≡ every (groups * 4) (sevenGood room.now pool.now)) }
-    ensures { result ≡ every (slots_of 7 pool.now) (sevenGood room.now pool.now) }
+        × (clear wide_mask first ≡ every (groups * 4) (seven_good room.now pool.now)) }
+    ensures { result ≡ every (slots_of 7 pool.now) (seven_good room.now pool.now) }
 {
     let last = pool.len() / 7 - 1;
     let most = rest_shown(keep, room, pool, groups * 4, last, first);
@@ -166,7 +166,7 @@ pub(crate) fn good_to_last(
 // Whether every slot is good: its five bytes, and its number where it is empty.
 pub fn all_slots_good(s: u8, g: usize, pool: &[u8]) -> bool
     requires { (s ≤ 64) × (g ≤ 256) }
-    ensures { result ≡ (allSlotsGood 7 s g pool.now && allNumbersGood pool.now) }
+    ensures { result ≡ (all_slots_good 7 s g pool.now && all_numbers_good pool.now) }
 {
     let n = pool.len() / 7;
     if n == 0 {

@@ -9,15 +9,15 @@ use Rattle.model.specs.declared.Posted.TheVariants.{Copy, Dec as Decr, IncDec, N
 use Rattle.model.specs.declared.Answer.{Answer}
 use Rattle.model.specs.declared.Call.{Call}
 use Rattle.model.specs.declared.Call.TheVariants.{MakeCopy, Receive, Delete, Ask}
-use Rattle.model.specs.Questions.{every, some, howMany, lowestFrom, total, up_to}
-use Rattle.model.specs.Messages.{messageOf}
-use Rattle.model.specs.Answers.{accepted, acceptedTelling, refused, Outcome}
-use Rattle.model.specs.Calls.{copyRefusal, deleteRefusal, lentRefusal, front, openRefusal, openDesk, copyNumber, copied, makeCopy, receiveNumber, received, receive, deleteNumber, deleted, delete, askNumber, asked, ask, step}
-use Rattle.model.specs.Tables.{Desk, lent, all_below, allSlotsGood}
+use Rattle.model.specs.Questions.{every, some, how_many, lowest_from, total, up_to}
+use Rattle.model.specs.Messages.{message_of}
+use Rattle.model.specs.Answers.{accepted, accepted_telling, refused, Outcome}
+use Rattle.model.specs.Calls.{copy_refusal, delete_refusal, lent_refusal, front, open_refusal, open_desk, copy_number, copied, make_copy, receive_number, received, receive, delete_number, deleted, delete, ask_number, asked, ask, step}
+use Rattle.model.specs.Tables.{Desk, lent, all_below, all_slots_good}
 use Rattle.model.specs.Flat.{flat}
 use Rattle.model.proofs.SameAnswers.{answered, after}
-use Rattle.word_cells.specs.WordCells.{bit, withBit, WordDesk, lentInWords, words, countNumber, counted, countHolders, packed, packNumber, pack, unpacked, unpackNumber, unpack}
-use Rattle.word_cells.proofs.CountLaws.{count-accepted}
+use Rattle.word_cells.specs.WordCells.{bit, with_bit, WordDesk, lent_in_words, words, count_number, counted, count_holders, packed, pack_number, pack, unpacked, unpack_number, unpack}
+use Rattle.word_cells.proofs.CountLaws.{count_accepted}
 
 -- ---- the count of holders
 -- a desk, a pointer and the answer
@@ -31,15 +31,15 @@ counting d p answer = record { lent = d; pointer = p; answer = answer }
 
 -- S = 3, one owner 0, no slots, these words
 abbrev three : List ℕ → WordDesk
-three table = lentInWords 3 (0 ∷ []) (replicate 3 0) table []
+three table = lent_in_words 3 (0 ∷ []) (replicate 3 0) table []
 
 -- S = 3, pointer 0 of site 0 and pointer 1 of site 2
-abbrev two-pointers : WordDesk
-two-pointers = lentInWords 3 (0 ∷ 2 ∷ []) (replicate 6 0) (7 ∷ 4 ∷ []) []
+abbrev two_pointers : WordDesk
+two_pointers = lent_in_words 3 (0 ∷ 2 ∷ []) (replicate 6 0) (7 ∷ 4 ∷ []) []
 
 -- one pointer of site 0 for S sites
 abbrev many : ℕ → List ℕ → WordDesk
-many sites table = lentInWords sites (0 ∷ []) (replicate sites 0) table []
+many sites table = lent_in_words sites (0 ∷ []) (replicate sites 0) table []
 
 pub countings : List Counting
 countings =
@@ -50,44 +50,44 @@ countings =
     ∷ counting (three (0 ∷ [])) 0 (accepted 0 Nothing)
     ∷ counting (three []) 0 (refused 1)
     ∷ counting (three (8 ∷ [])) 1 (refused 2)
-    ∷ counting two-pointers 0 (accepted 3 Nothing)
-    ∷ counting two-pointers 1 (accepted 1 Nothing)
+    ∷ counting two_pointers 0 (accepted 3 Nothing)
+    ∷ counting two_pointers 1 (accepted 1 Nothing)
     ∷ counting (many 65 (0 ∷ [])) 0 (refused 1)
     ∷ []
 
-pub counted-as-listed : map (λ c. (countHolders c.lent c.pointer).answer) countings ≡ map (λ c. c.answer) countings
-unfolding countings countHolders countNumber counted front lentRefusal all_below allSlotsGood every ones ones_in
-counted-as-listed = refl
+pub counted_as_listed : map (λ c. (count_holders c.lent c.pointer).answer) countings ≡ map (λ c. c.answer) countings
+unfolding countings count_holders count_number counted front lent_refusal all_below all_slots_good every ones ones_in
+counted_as_listed = refl
 
 -- S = 64 and a word of 64 ones: no bit stands above, and the count is 64
-pub all-64-hold : (countHolders (many 64 ((2 ^ 64 - 1) ∷ [])) 0).answer ≡ accepted 64 Nothing
-unfolding lentRefusal all_below allSlotsGood every total bit
-all-64-hold = count-accepted (many 64 ((2 ^ 64 - 1) ∷ [])) refl 0 (omega arith)
+pub all_64_hold : (count_holders (many 64 ((2 ^ 64 - 1) ∷ [])) 0).answer ≡ accepted 64 Nothing
+unfolding lent_refusal all_below all_slots_good every total bit
+all_64_hold = count_accepted (many 64 ((2 ^ 64 - 1) ∷ [])) refl 0 (omega arith)
 
 -- site 63 stands at bit 63, where a copy is marked and a delete clears it
-abbrev at-63 : List ℕ → WordDesk
-at-63 table = lentInWords 64 (0 ∷ []) (replicate 64 0) table (1 ∷ 0 ∷ 63 ∷ 0 ∷ 0 ∷ 0 ∷ 0 ∷ 0 ∷ 0 ∷ 0 ∷ [])
+abbrev at_63 : List ℕ → WordDesk
+at_63 table = lent_in_words 64 (0 ∷ []) (replicate 64 0) table (1 ∷ 0 ∷ 63 ∷ 0 ∷ 0 ∷ 0 ∷ 0 ∷ 0 ∷ 0 ∷ 0 ∷ [])
 
-pub site-63 : map (λ calls. (after words (at-63 (1 ∷ [])) calls).receive) ((Receive 0 ∷ []) ∷ (Receive 0 ∷ Delete 63 0 ∷ []) ∷ []) ≡ ((2 ^ 63 + 1) ∷ []) ∷ (1 ∷ []) ∷ []
-unfolding after step front lentRefusal receive receiveNumber received delete deleteNumber deleteRefusal deleted all_below allSlotsGood every some howMany lowestFrom messageOf bit withBit
-site-63 = refl
+pub site_63 : map (λ calls. (after words (at_63 (1 ∷ [])) calls).receive) ((Receive 0 ∷ []) ∷ (Receive 0 ∷ Delete 63 0 ∷ []) ∷ []) ≡ ((2 ^ 63 + 1) ∷ []) ∷ (1 ∷ []) ∷ []
+unfolding after step front lent_refusal receive receive_number received delete delete_number delete_refusal deleted all_below all_slots_good every some how_many lowest_from message_of bit with_bit
+site_63 = refl
 
 -- ---- tables that mean the same may still be bad: an owner that is no site, a slot of kind 4; both desks give 2
-abbrev bad-owner : List ℕ → Desk
-bad-owner receive = lent 3 (5 ∷ []) (replicate 3 0) receive []
+abbrev bad_owner : List ℕ → Desk
+bad_owner receive = lent 3 (5 ∷ []) (replicate 3 0) receive []
 
-abbrev bad-slot : List ℕ → Desk
-bad-slot receive = lent 3 (0 ∷ []) (replicate 3 0) receive (4 ∷ 0 ∷ 1 ∷ 0 ∷ 0 ∷ [])
+abbrev bad_slot : List ℕ → Desk
+bad_slot receive = lent 3 (0 ∷ []) (replicate 3 0) receive (4 ∷ 0 ∷ 1 ∷ 0 ∷ 0 ∷ [])
 
-pub both-give-2 : (step flat (bad-owner (1 ∷ 1 ∷ 0 ∷ [])) (Ask 0 0)).answer ∷ (step words (bad-owner (3 ∷ [])) (Ask 0 0)).answer
-    ∷ (step flat (bad-slot (1 ∷ 1 ∷ 0 ∷ [])) (Receive 0)).answer ∷ (step words (bad-slot (3 ∷ [])) (Receive 0)).answer ∷ []
+pub both_give_2 : (step flat (bad_owner (1 ∷ 1 ∷ 0 ∷ [])) (Ask 0 0)).answer ∷ (step words (bad_owner (3 ∷ [])) (Ask 0 0)).answer
+    ∷ (step flat (bad_slot (1 ∷ 1 ∷ 0 ∷ [])) (Receive 0)).answer ∷ (step words (bad_slot (3 ∷ [])) (Receive 0)).answer ∷ []
     ≡ replicate 4 (refused 2)
-unfolding step front lentRefusal receive receiveNumber ask askNumber all_below allSlotsGood every
-both-give-2 = refl
+unfolding step front lent_refusal receive receive_number ask ask_number all_below all_slots_good every
+both_give_2 = refl
 
 -- ---- the fourteen lines of document 01
 abbrev opened : WordDesk
-opened = (openDesk words (lentInWords 3 (0 ∷ []) (replicate 3 9) (9 ∷ []) (replicate 20 9))).desk
+opened = (open_desk words (lent_in_words 3 (0 ∷ []) (replicate 3 9) (9 ∷ []) (replicate 20 9))).desk
 
 abbrev calls : List Call
 calls =
@@ -106,29 +106,29 @@ calls =
     ∷ Ask 0 0
     ∷ []
 
-pub fourteen-answers : answered words opened calls
-    ≡ acceptedTelling 4 0 (Copy 0 1 0)
+pub fourteen_answers : answered words opened calls
+    ≡ accepted_telling 4 0 (Copy 0 1 0)
     ∷ accepted 0 Nothing
-    ∷ acceptedTelling 4 0 (Copy 1 2 0)
+    ∷ accepted_telling 4 0 (Copy 1 2 0)
     ∷ accepted 0 (IncDec 2 0 1 0)
-    ∷ acceptedTelling 3 1 (Decr 2 0 0)
+    ∷ accepted_telling 3 1 (Decr 2 0 0)
     ∷ refused 9
     ∷ accepted 0 Nothing
     ∷ accepted 0 (Decr 0 1 0)
     ∷ accepted 1 Nothing
     ∷ accepted 0 Nothing
-    ∷ acceptedTelling 4 0 (Decr 1 0 0)
+    ∷ accepted_telling 4 0 (Decr 1 0 0)
     ∷ accepted 0 Nothing
     ∷ accepted 1 Nothing
     ∷ []
-unfolding answered openDesk openRefusal step front lentRefusal makeCopy copyNumber copyRefusal copied receive receiveNumber received delete deleteNumber deleteRefusal deleted ask askNumber asked all_below allSlotsGood every some howMany lowestFrom messageOf bit withBit
-fourteen-answers = refl
+unfolding answered open_desk open_refusal step front lent_refusal make_copy copy_number copy_refusal copied receive receive_number received delete delete_number delete_refusal deleted ask ask_number asked all_below all_slots_good every some how_many lowest_from message_of bit with_bit
+fourteen_answers = refl
 
 -- the word after lines 1 to 14
-pub fourteen-words : map (λ n. (after words opened (take n calls)).receive) (0 ∷ 1 ∷ 2 ∷ 3 ∷ 4 ∷ 5 ∷ 6 ∷ 7 ∷ 8 ∷ 9 ∷ 10 ∷ 11 ∷ 12 ∷ 13 ∷ [])
+pub fourteen_words : map (λ n. (after words opened (take n calls)).receive) (0 ∷ 1 ∷ 2 ∷ 3 ∷ 4 ∷ 5 ∷ 6 ∷ 7 ∷ 8 ∷ 9 ∷ 10 ∷ 11 ∷ 12 ∷ 13 ∷ [])
     ≡ map (λ w. w ∷ []) (1 ∷ 1 ∷ 3 ∷ 3 ∷ 7 ∷ 3 ∷ 3 ∷ 3 ∷ 3 ∷ 3 ∷ 3 ∷ 1 ∷ 1 ∷ 1 ∷ [])
-unfolding after openDesk openRefusal step front lentRefusal makeCopy copyNumber copyRefusal copied receive receiveNumber received delete deleteNumber deleteRefusal deleted ask askNumber asked all_below allSlotsGood every some howMany lowestFrom messageOf bit withBit
-fourteen-words = refl
+unfolding after open_desk open_refusal step front lent_refusal make_copy copy_number copy_refusal copied receive receive_number received delete delete_number delete_refusal deleted ask ask_number asked all_below all_slots_good every some how_many lowest_from message_of bit with_bit
+fourteen_words = refl
 
 -- ---- pack and unpack
 -- sites, what is read, the room that is written, the number and what is left in the room
@@ -159,9 +159,9 @@ packings =
 abbrev result : Outcome (List ℕ) → Writing → Writing
 result o w = writing w.sites w.read w.room o.answer.number o.desk
 
-pub packed-as-listed : map (λ w. result (pack w.sites w.read w.room) w) packings ≡ packings
-unfolding packings pack packNumber packed all_below every total up_to
-packed-as-listed = refl
+pub packed_as_listed : map (λ w. result (pack w.sites w.read w.room) w) packings ≡ packings
+unfolding packings pack pack_number packed all_below every total up_to
+packed_as_listed = refl
 
 pub unpackings : List Writing
 unpackings =
@@ -177,6 +177,6 @@ unpackings =
     ∷ writing 64 ((2 ^ 64 - 1) ∷ []) (replicate 64 9) 0 (replicate 64 1)
     ∷ []
 
-pub unpacked-as-listed : map (λ w. result (unpack w.sites w.read w.room) w) unpackings ≡ unpackings
-unfolding unpackings unpack unpackNumber unpacked all_below every bit
-unpacked-as-listed = refl
+pub unpacked_as_listed : map (λ w. result (unpack w.sites w.read w.room) w) unpackings ≡ unpackings
+unfolding unpackings unpack unpack_number unpacked all_below every bit
+unpacked_as_listed = refl

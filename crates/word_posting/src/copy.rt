@@ -1,7 +1,7 @@
 // Make copy (Document 01, The calls).
 ghost use Rattle.std.specs.Prelude.{◌≡◌};
-ghost use Rattle.model.specs.Calls.{makeCopy};
-ghost use Rattle.word_cells.specs.WordCells.{lentInWords, words};
+ghost use Rattle.model.specs.Calls.{make_copy};
+ghost use Rattle.word_cells.specs.WordCells.{lent_in_words, words};
 
 use bits::bit::bit_of;
 use model::{Answer, Posted};
@@ -23,8 +23,8 @@ pub fn make_copy(
     to: u8,
     pointer: u8,
 ) -> Answer
-    ensures { record { answer = result; desk = lentInWords s owners.now send.new receive.now pool.new }
-        ≡ makeCopy words (lentInWords s owners.now send.old receive.now pool.old) from to pointer }
+    ensures { record { answer = result; desk = lent_in_words s owners.now send.new receive.now pool.new }
+        ≡ make_copy words (lent_in_words s owners.now send.old receive.now pool.old) from to pointer }
 {
     let p = pointer as usize;
     let named = (from < s) & (to < s) & (p < owners.len());

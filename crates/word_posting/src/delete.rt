@@ -1,7 +1,7 @@
 // Delete (Document 01, The calls).
 ghost use Rattle.std.specs.Prelude.{◌≡◌};
-ghost use Rattle.model.specs.Calls.{delete as deleteOf};
-ghost use Rattle.word_cells.specs.WordCells.{lentInWords, words};
+ghost use Rattle.model.specs.Calls.{delete as delete_of};
+ghost use Rattle.word_cells.specs.WordCells.{lent_in_words, words};
 
 use bits::bit::{bit_of, with_bit};
 use model::{Answer, Posted};
@@ -22,8 +22,8 @@ pub fn delete(
     site: u8,
     pointer: u8,
 ) -> Answer
-    ensures { record { answer = result; desk = lentInWords s owners.now send.now receive.new pool.new }
-        ≡ deleteOf words (lentInWords s owners.now send.now receive.old pool.old) site pointer }
+    ensures { record { answer = result; desk = lent_in_words s owners.now send.now receive.new pool.new }
+        ≡ delete_of words (lent_in_words s owners.now send.now receive.old pool.old) site pointer }
 {
     let p = pointer as usize;
     let named = (site < s) & (p < owners.len());

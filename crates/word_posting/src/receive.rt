@@ -1,7 +1,7 @@
 // Receive (Document 01, The calls).
 ghost use Rattle.std.specs.Prelude.{◌≡◌};
-ghost use Rattle.model.specs.Calls.{receive as receiveOf};
-ghost use Rattle.word_cells.specs.WordCells.{lentInWords, words};
+ghost use Rattle.model.specs.Calls.{receive as receive_of};
+ghost use Rattle.word_cells.specs.WordCells.{lent_in_words, words};
 
 use bits::bit::{bit_of, with_bit};
 use model::Answer;
@@ -22,8 +22,8 @@ pub fn receive(
     pool: &mut [u8],
     slot: u16,
 ) -> Answer
-    ensures { record { answer = result; desk = lentInWords s owners.now send.new receive.new pool.new }
-        ≡ receiveOf words (lentInWords s owners.now send.old receive.old pool.old) slot }
+    ensures { record { answer = result; desk = lent_in_words s owners.now send.new receive.new pool.new }
+        ≡ receive_of words (lent_in_words s owners.now send.old receive.old pool.old) slot }
 {
     let n = slot_refusal(s, owners, &send[..], &receive[..], &pool[..], slot);
     if n != 0 {

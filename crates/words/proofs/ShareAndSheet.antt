@@ -6,15 +6,15 @@ use lib.IntN.{pos, negsuc}
 use lib.ListN.{get_or}
 use lib.Signed.{◌≤ℤ◌}
 use Rattle.model.specs.Survey.{share, sheet}
-use Rattle.slots.proofs.ShareRange.{share-between}
-use Rattle.slots.proofs.SheetColumns.{column-above-sites}
+use Rattle.slots.proofs.ShareRange.{share_between}
+use Rattle.slots.proofs.SheetColumns.{column_above_sites}
 use Rattle.word_cells.specs.WordCells.{WordDesk, words}
-use Rattle.word_cells.proofs.WordLaws.{words-laws}
+use Rattle.word_cells.proofs.WordLaws.{words_laws}
 
 -- The share that the desk of document 01 answers lies from minus 1,024 to 1,025, for all lent tables, all sites and all pointers.
-pub share-from-minus-1024-to-1025 : (d : WordDesk) (site p : ℕ) → (negsuc 1023 ≤ℤ (share words d site p).share) × ((share words d site p).share ≤ℤ pos 1025)
-share-from-minus-1024-to-1025 = share-between words words-laws
+pub share_from_minus_1024_to_1025 : (d : WordDesk) (site p : ℕ) → (negsuc 1023 ≤ℤ (share words d site p).share) × ((share words d site p).share ≤ℤ pos 1025)
+share_from_minus_1024_to_1025 = share_between words words_laws
 
 -- Of the desk of document 01: every column at or above S is 0, in every row, for all lent tables and all pointers.
-pub columns-above-sites-0 : (d : WordDesk) (p row site : ℕ) → row < 3 → site < 64 → d.S ≤ site → get_or (get_or (sheet words d p) row []) site 0 ≡ 0
-columns-above-sites-0 d p row site lr ls = column-above-sites words d p row site lr ls words-laws
+pub columns_above_sites_0 : (d : WordDesk) (p row site : ℕ) → row < 3 → site < 64 → d.S ≤ site → get_or (get_or (sheet words d p) row []) site 0 ≡ 0
+columns_above_sites_0 d p row site lr ls = column_above_sites words d p row site lr ls words_laws

@@ -1,7 +1,7 @@
 // Ask (Document 01, The calls).
 ghost use Rattle.std.specs.Prelude.{◌≡◌};
-ghost use Rattle.model.specs.Calls.{ask as askOf};
-ghost use Rattle.word_cells.specs.WordCells.{lentInWords, words};
+ghost use Rattle.model.specs.Calls.{ask as ask_of};
+ghost use Rattle.word_cells.specs.WordCells.{lent_in_words, words};
 
 use crate::front::front;
 use model::{Answer, Posted};
@@ -18,8 +18,8 @@ pub fn ask(
     site: u8,
     pointer: u8,
 ) -> Answer
-    ensures { record { answer = result; desk = lentInWords s owners.now send.now receive.now pool.now }
-        ≡ askOf words (lentInWords s owners.now send.now receive.now pool.now) site pointer }
+    ensures { record { answer = result; desk = lent_in_words s owners.now send.now receive.now pool.now }
+        ≡ ask_of words (lent_in_words s owners.now send.now receive.now pool.now) site pointer }
 {
     let p = pointer as usize;
     let named = (site < s) & (p < owners.len());

@@ -1,6 +1,6 @@
 // The count of holders of a pointer (Document 02, Five).
 ghost use Rattle.std.specs.Prelude.{◌≡◌};
-ghost use Rattle.word_cells.specs.WordCells.{lentInWords, countHolders};
+ghost use Rattle.word_cells.specs.WordCells.{lent_in_words, count_holders};
 
 use crate::front::front;
 use bits::bit::ones;
@@ -16,8 +16,8 @@ pub fn count_holders(
     pool: &[u8],
     pointer: u8,
 ) -> Answer
-    ensures { record { answer = result; desk = lentInWords s owners.now send.now receive.now pool.now }
-        ≡ countHolders (lentInWords s owners.now send.now receive.now pool.now) pointer }
+    ensures { record { answer = result; desk = lent_in_words s owners.now send.now receive.now pool.now }
+        ≡ count_holders (lent_in_words s owners.now send.now receive.now pool.now) pointer }
 {
     let p = pointer as usize;
     let n = front(s, owners, send, receive, pool, p < owners.len());

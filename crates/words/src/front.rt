@@ -1,15 +1,15 @@
 // The tests that begin every call and every question: 1, 2, 3; and a receive: 8 (Document 01, Why a call is turned down).
 ghost use Rattle.std.specs.Prelude.{◌≡◌, ltb};
-ghost use Rattle.model.specs.Refusals.{EmptySlot, ◌when◌, ◌orElse◌};
+ghost use Rattle.model.specs.Refusals.{EmptySlot, ◌when◌, ◌or_else◌};
 ghost use Rattle.model.specs.Tables.{slots_of, empty_at};
-ghost use Rattle.model.specs.Calls.{front as frontOf};
-ghost use Rattle.word_cells.specs.WordCells.{lentInWords, words};
+ghost use Rattle.model.specs.Calls.{front as front_of};
+ghost use Rattle.word_cells.specs.WordCells.{lent_in_words, words};
 
 use crate::lent::lent_refusal;
 
 // 1, 2, 3; named: whether the sites, the pointer and the slot that are named are in range.
 pub fn front(s: u8, owners: &[u8], send: &[u16], receive: &[u64], pool: &[u8], named: bool) -> u8
-    ensures { result ≡ frontOf words (lentInWords s owners.now send.now receive.now pool.now) named }
+    ensures { result ≡ front_of words (lent_in_words s owners.now send.now receive.now pool.now) named }
 {
     let n = lent_refusal(s, owners, send, receive, pool);
     if n != 0 {
@@ -30,7 +30,7 @@ pub fn slot_refusal(
     pool: &[u8],
     slot: u16,
 ) -> u8
-    ensures { result ≡ frontOf words (lentInWords s owners.now send.now receive.now pool.now) (ltb slot (slots_of 5 pool.now))
+    ensures { result ≡ front_of words (lent_in_words s owners.now send.now receive.now pool.now) (ltb slot (slots_of 5 pool.now))
         or_else EmptySlot when empty_at 5 pool.now slot }
 {
     let i = slot as usize;

@@ -1,9 +1,9 @@
 // The numbers 1 and 2 of what is lent (Document 01, Why a call is turned down; Document 02, Five).
 ghost use Rattle.std.specs.Prelude.{◌≡◌, ◌&&◌, not, ◌^◌};
-ghost use Rattle.model.specs.Refusals.{BadShape, BadTable, ◌when◌, ◌orElse◌};
+ghost use Rattle.model.specs.Refusals.{BadShape, BadTable, ◌when◌, ◌or_else◌};
 ghost use Rattle.model.specs.Tables.{all_below};
-ghost use Rattle.model.specs.Calls.{lentRefusal};
-ghost use Rattle.word_cells.specs.WordCells.{lentInWords, words};
+ghost use Rattle.model.specs.Calls.{lent_refusal};
+ghost use Rattle.word_cells.specs.WordCells.{lent_in_words, words};
 
 use crate::shape::shape_good;
 use bits::within::all_within;
@@ -12,7 +12,7 @@ use scan::word::all_slots_good;
 
 // 1, 2 of all that is lent but the slots.
 pub(crate) fn tables_refusal(s: u8, owners: &[u8], send: &[u16], receive: &[u64], pool: &[u8]) -> u8
-    ensures { result ≡ BadShape when not (words.shaped (lentInWords s owners.now send.now receive.now pool.now))
+    ensures { result ≡ BadShape when not (words.shaped (lent_in_words s owners.now send.now receive.now pool.now))
         or_else BadTable when not (all_below s owners.now && all_below (2 ^ s) receive.now) }
 {
     if !shape_good(s, owners.len(), send.len(), receive.len(), pool.len()) {
@@ -26,7 +26,7 @@ pub(crate) fn tables_refusal(s: u8, owners: &[u8], send: &[u16], receive: &[u64]
 
 // 1, 2 of all that is lent: the tests that begin every call.
 pub fn lent_refusal(s: u8, owners: &[u8], send: &[u16], receive: &[u64], pool: &[u8]) -> u8
-    ensures { result ≡ lentRefusal words (lentInWords s owners.now send.now receive.now pool.now) }
+    ensures { result ≡ lent_refusal words (lent_in_words s owners.now send.now receive.now pool.now) }
 {
     let n = tables_refusal(s, owners, send, receive, pool);
     if n != 0 {

@@ -1,7 +1,7 @@
 // Opening (Document 01, What the host lends; Document 02, Five).
 ghost use Rattle.std.specs.Prelude.{◌≡◌};
-ghost use Rattle.model.specs.Calls.{openDesk};
-ghost use Rattle.word_cells.specs.WordCells.{lentInWords, words};
+ghost use Rattle.model.specs.Calls.{open_desk};
+ghost use Rattle.word_cells.specs.WordCells.{lent_in_words, words};
 
 use crate::shape::shape_good;
 use bits::owners::owner_bits;
@@ -18,8 +18,8 @@ pub fn open_desk(
     receive: &mut [u64],
     pool: &mut [u8],
 ) -> Answer
-    ensures { record { answer = result; desk = lentInWords s owners.now send.new receive.new pool.new }
-        ≡ openDesk words (lentInWords s owners.now send.old receive.old pool.old) }
+    ensures { record { answer = result; desk = lent_in_words s owners.now send.new receive.new pool.new }
+        ≡ open_desk words (lent_in_words s owners.now send.old receive.old pool.old) }
 {
     if !shape_good(s, owners.len(), send.len(), receive.len(), pool.len()) {
         return refused(1);

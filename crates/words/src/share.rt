@@ -1,7 +1,7 @@
 // The share of a site (Document 01, Share and sheet).
 ghost use Rattle.std.specs.Prelude.{◌≡◌};
-ghost use Rattle.word_cells.specs.WordCells.{lentInWords, words};
-ghost use Rattle.model.specs.Survey.{shareNumber, share as share_of};
+ghost use Rattle.word_cells.specs.WordCells.{lent_in_words, words};
+ghost use Rattle.model.specs.Survey.{share_number, share as share_of};
 
 use crate::front::front;
 use bits::bit::bit_of;
@@ -19,7 +19,7 @@ fn share_number(
     site: u8,
     pointer: u8,
 ) -> u8
-    ensures { result ≡ shareNumber words (lentInWords s owners.now send.now receive.now pool.now) site pointer }
+    ensures { result ≡ share_number words (lent_in_words s owners.now send.now receive.now pool.now) site pointer }
 {
     let p = pointer as usize;
     let n = front(
@@ -49,7 +49,7 @@ pub fn share(
     site: u8,
     pointer: u8,
 ) -> Share
-    ensures { result ≡ share_of words (lentInWords s owners.now send.now receive.now pool.now) site pointer }
+    ensures { result ≡ share_of words (lent_in_words s owners.now send.now receive.now pool.now) site pointer }
 {
     let n = share_number(s, owners, send, receive, pool, site, pointer);
     if n != 0 {

@@ -1,7 +1,7 @@
 // The sheet of a pointer (Document 01, Share and sheet).
 ghost use Rattle.std.specs.Prelude.{◌≡◌};
-ghost use Rattle.word_cells.specs.WordCells.{lentInWords, words};
-ghost use Rattle.model.specs.Survey.{sheetNumber, sheet as sheetOf};
+ghost use Rattle.word_cells.specs.WordCells.{lent_in_words, words};
+ghost use Rattle.model.specs.Survey.{sheet_number, sheet as sheet_of};
 
 use crate::front::front;
 use slots::entries::{blank, entries};
@@ -15,7 +15,7 @@ pub fn sheet_number(
     pool: &[u8],
     pointer: u8,
 ) -> u8
-    ensures { result ≡ sheetNumber words (lentInWords s owners.now send.now receive.now pool.now) pointer }
+    ensures { result ≡ sheet_number words (lent_in_words s owners.now send.now receive.now pool.now) pointer }
 {
     front(
         s,
@@ -37,8 +37,8 @@ pub fn sheet_by(
     pool: &[u8],
     pointer: u8,
 ) -> [[u32; 64]; 3]
-    requires { number ≡ sheetNumber words (lentInWords s owners.now send.now receive.now pool.now) pointer }
-    ensures { result ≡ sheetOf words (lentInWords s owners.now send.now receive.now pool.now) pointer }
+    requires { number ≡ sheet_number words (lent_in_words s owners.now send.now receive.now pool.now) pointer }
+    ensures { result ≡ sheet_of words (lent_in_words s owners.now send.now receive.now pool.now) pointer }
 {
     if number != 0 {
         return blank();

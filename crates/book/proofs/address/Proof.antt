@@ -4,7 +4,7 @@ use native.Mathlib.Omega.{arith}
 use borrow.Author.Rules.{rules}
 use lib.ListN.{length, get_or}
 use Rattle.book.specs.Part.{seen}
-use Rattle.book.proofs.AddressLaws.{part-refused, part-inside, part-given}
+use Rattle.book.proofs.AddressLaws.{part_refused, part_inside, part_given_lem}
 use Rattle.book.proofs.address.Statement.{statement}
 use Rattle.book.proofs.address.Tie as tie
 
@@ -24,7 +24,7 @@ returns : tie.Need-returns
 returns c =
     let n = c.before.before in
     let a = n.before.before.before.args in
-    part-refused a.s a.owners.now a.pointer (seen a.book) n.entry_IsPlace.ensures c.before.if1.true
+    part_refused a.s a.owners.now a.pointer (seen a.book) n.entry_IsPlace.ensures c.before.if1.true
 
 abbrev entry : tie.Else1 → tie.Start
 entry c = c.before.before.before.before
@@ -33,7 +33,7 @@ entry c = c.before.before.before.before
 inside : (c : tie.Else1) → c.before.entry_IsPlace.result + 1 + get_or (entry c).args.book.now c.before.entry_IsPlace.result 0 ≤ length (entry c).args.book.now
 inside c =
     let a = (entry c).args in
-    part-inside a.s a.owners.now a.pointer a.book.now c.before.entry_IsPlace.ensures c.if1.false
+    part_inside a.s a.owners.now a.pointer a.book.now c.before.entry_IsPlace.ensures c.if1.false
 
 add_start : tie.Need-overflow-add-start
 add_start c = omega (arith, inside c)
@@ -60,7 +60,7 @@ returns-2 : tie.Need-returns-2
 returns-2 c =
     let e = c.before.before in
     let a = (entry e).args in
-    part-given a.s a.owners.now a.pointer (seen a.book) e.before.entry_IsPlace.ensures e.if1.false
+    part_given_lem a.s a.owners.now a.pointer (seen a.book) e.before.entry_IsPlace.ensures e.if1.false
 
 pub address_spec : {M : Type 1} → statement M
 address_spec =

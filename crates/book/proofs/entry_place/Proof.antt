@@ -3,10 +3,10 @@ use mathlib.Core.Path.{◌≡◌, sym, ◌∙◌}
 use native.Mathlib.Omega.{arith}
 use borrow.Author.Rules.{rules}
 use lib.ListN.{length}
-use Rattle.model.specs.Tables.{ownersRefusal}
+use Rattle.model.specs.Tables.{owners_refusal}
 use Rattle.book.specs.Walk.{walked}
-use Rattle.book.proofs.EntryLaws.{walked-rest, walked-entry}
-use Rattle.book.proofs.RefusalLaws.{book-passes, book-bad, book-good, address-passes, address-given, place-refused, place-given}
+use Rattle.book.proofs.EntryLaws.{walked_rest, walked_entry}
+use Rattle.book.proofs.RefusalLaws.{book_passes, book_bad, book_good, address_passes, address_given, place_refused, place_given}
 use Rattle.book.proofs.entry_place.Statement.{statement}
 use Rattle.book.proofs.entry_place.Tie as tie
 
@@ -14,10 +14,10 @@ owners-refusal-requires : tie.Need-owners-refusal-requires
 owners-refusal-requires c κs = search rules
 
 returns : tie.Need-returns
-returns c = place-refused _ _ _ _ (λ z. c.if1.true (c.before.owners-refusal.ensures ∙ (book-passes _ _ _ (address-passes _ _ _ _ z).0).0))
+returns c = place_refused _ _ _ _ (λ z. c.if1.true (c.before.owners-refusal.ensures ∙ (book_passes _ _ _ (address_passes _ _ _ _ z).0).0))
 
 returns-2 : tie.Need-returns-2
-returns-2 c = place-refused _ _ _ _ (λ z. let l = (address-passes _ _ _ _ z).1 in absurd (omega arith))
+returns-2 c = place_refused _ _ _ _ (λ z. let l = (address_passes _ _ _ _ z).1 in absurd (omega arith))
 
 walk-requires : tie.Need-walk-requires
 walk-requires c κs = search rules
@@ -32,7 +32,7 @@ abbrev entry : tie.After-walk2 → tie.Start
 entry c = c.before.before.before.before.before.before.before
 
 -- 1 and 2 are passed, and the second walk ends where one over all entries does
-passed : (c : tie.After-walk2) → ownersRefusal (entry c).args.s (entry c).args.owners.now ≡ 0
+passed : (c : tie.After-walk2) → owners_refusal (entry c).args.s (entry c).args.owners.now ≡ 0
 passed c =
     let n = c.before.before.before in
     sym n.before.owners-refusal.ensures ∙ n.if1.false
@@ -40,25 +40,25 @@ passed c =
 whole : (c : tie.After-walk2) → c.walk2.result ≡ walked 1 (entry c).args.book.now 0 (length (entry c).args.owners.now)
 whole c =
     let a = (entry c).args in
-    walked-rest 1 a.book.now a.pointer (length a.owners.now) (omega arith) c.before.walk.ensures c.walk2.ensures
+    walked_rest 1 a.book.now a.pointer (length a.owners.now) (omega arith) c.before.walk.ensures c.walk2.ensures
 
 returns-3 : tie.Need-returns-3
 returns-3 c =
     let w = c.before in
-    place-refused _ _ _ _ (λ z. let e = book-bad _ _ _ (passed w) (whole w) c.if3.true ∙ (address-passes _ _ _ _ z).0 in absurd (omega arith))
+    place_refused _ _ _ _ (λ z. let e = book_bad _ _ _ (passed w) (whole w) c.if3.true ∙ (address_passes _ _ _ _ z).0 in absurd (omega arith))
 
 returns-4 : tie.Need-returns-4
 returns-4 c =
     let w = c.before in
     let a = (entry w).args in
-    let z = sym (book-good a.s a.owners.now a.book.now (passed w) (whole w) c.if3.false) in
-    let good = (book-passes a.s a.owners.now a.book.now z).1 in
+    let z = sym (book_good a.s a.owners.now a.book.now (passed w) (whole w) c.if3.false) in
+    let good = (book_passes a.s a.owners.now a.book.now z).1 in
     w.before.walk.ensures
-    ∙ walked-entry 1 a.book.now (length a.owners.now) good a.pointer (omega arith)
-    ∙ place-given a.s a.owners.now a.book.now a.pointer (sym (address-given _ _ _ _ z (omega arith)))
+    ∙ walked_entry 1 a.book.now (length a.owners.now) good a.pointer (omega arith)
+    ∙ place_given a.s a.owners.now a.book.now a.pointer (sym (address_given _ _ _ _ z (omega arith)))
 
-pub entry-place-spec : {M : Type 1} → statement M
-entry-place-spec =
+pub entry_place_spec : {M : Type 1} → statement M
+entry_place_spec =
     tie.close
     (tie.spec
     owners-refusal-requires

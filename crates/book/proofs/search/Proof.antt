@@ -5,16 +5,16 @@ use native.Mathlib.Omega.{arith}
 use borrow.Author.Rules.{rules}
 use lib.ListN.{length}
 use Rattle.model.specs.Questions.{lowest}
-use Rattle.model.specs.Tables.{ownersRefusal}
-use Rattle.model.proofs.QuestionLaws.{lowest-most}
-use Rattle.book.specs.Book.{has, bookRefusal, searchNumber, searchAnswer}
+use Rattle.model.specs.Tables.{owners_refusal}
+use Rattle.model.proofs.QuestionLaws.{lowest_most}
+use Rattle.book.specs.Book.{has, book_refusal, search_number, search_answer}
 use Rattle.book.specs.Walk.{walked, meets}
-use Rattle.book.proofs.EntryLaws.{walked-rest}
-use Rattle.book.proofs.FindLaws.{lowest-meets}
-use Rattle.model.proofs.TestLaws.{number-first}
-use Rattle.book.proofs.OwnerLaws.{owners-few}
-use Rattle.book.proofs.AnswerLaws.{refused-answer, accepted-answer}
-use Rattle.book.proofs.RefusalLaws.{book-passes, book-bad, book-good, search-beyond, search-nowhere, search-found}
+use Rattle.book.proofs.EntryLaws.{walked_rest}
+use Rattle.book.proofs.FindLaws.{lowest_meets}
+use Rattle.model.proofs.TestLaws.{number_first}
+use Rattle.book.proofs.OwnerLaws.{owners_few}
+use Rattle.book.proofs.AnswerLaws.{refused_answer, accepted_answer}
+use Rattle.book.proofs.RefusalLaws.{book_passes, book_bad, book_good, search_beyond, search_nowhere, search_found}
 use Rattle.book.proofs.search.Statement.{statement}
 use Rattle.book.proofs.search.Tie as tie
 
@@ -25,11 +25,11 @@ refused-requires : tie.Need-refused-requires
 refused-requires c κs = search rules
 
 returns : tie.Need-returns
-unfolding searchAnswer searchNumber bookRefusal
+unfolding search_answer search_number book_refusal
 returns c =
     let n = c.before.before.owners-refusal in
     let given = c.before.if1.true in
-    refused-answer n.result _ _ given (number-first _ _ _ given (number-first _ _ _ given n.ensures)) c.refused.ensures
+    refused_answer n.result _ _ given (number_first _ _ _ given (number_first _ _ _ given n.ensures)) c.refused.ensures
 
 lowest-requires : tie.Need-lowest-requires
 lowest-requires c κs = search rules
@@ -41,7 +41,7 @@ entry c = c.before.before.before.before.before.before
 most : (c : tie.After-lowest) → c.lowest.result.pointer ≤ length (entry c).args.owners.now
 most c =
     let a = (entry c).args in
-    omega (arith, c.lowest.ensures.0, lowest-most (meets a.owners.now a.book.now a.owner a.wanted.now) 0 (length a.owners.now))
+    omega (arith, c.lowest.ensures.0, lowest_most (meets a.owners.now a.book.now a.owner a.wanted.now) 0 (length a.owners.now))
 
 sub-walk : tie.Need-overflow-sub-walk
 sub-walk c = most c
@@ -50,72 +50,72 @@ walk-requires : tie.Need-walk-requires
 walk-requires c κs = search rules
 
 -- 1 and 2 are passed, and the walk ends where one over all entries does
-passed : (c : tie.After-walk) → ownersRefusal (entry c.before).args.s (entry c.before).args.owners.now ≡ 0
+passed : (c : tie.After-walk) → owners_refusal (entry c.before).args.s (entry c.before).args.owners.now ≡ 0
 passed c = sym c.before.before.before.owners-refusal.ensures ∙ c.before.before.if1.false
 
 whole : (c : tie.After-walk) → c.walk.result ≡ walked 1 (entry c.before).args.book.now 0 (length (entry c.before).args.owners.now)
 whole c =
     let a = (entry c.before).args in
-    walked-rest 1 a.book.now c.before.lowest.result.pointer (length a.owners.now) (most c.before) c.before.lowest.ensures.1 c.walk.ensures
+    walked_rest 1 a.book.now c.before.lowest.result.pointer (length a.owners.now) (most c.before) c.before.lowest.ensures.1 c.walk.ensures
 
 refused-requires-2 : tie.Need-refused-requires-2
 refused-requires-2 c κs = search rules
 
 returns-2 : tie.Need-returns-2
-unfolding searchAnswer searchNumber
+unfolding search_answer search_number
 returns-2 c =
     let w = c.before.before in
-    refused-answer 18 _ _ (λ z. absurd (omega arith))
-    (number-first 18 _ _ (λ z. absurd (omega arith)) (book-bad _ _ _ (passed w) (whole w) c.before.if2.true))
+    refused_answer 18 _ _ (λ z. absurd (omega arith))
+    (number_first 18 _ _ (λ z. absurd (omega arith)) (book_bad _ _ _ (passed w) (whole w) c.before.if2.true))
     c.refused2.ensures
 
 -- it ends there: 18 is passed, and what the walk found is the lowest pointer that has both
-good : (c : tie.Else2) → bookRefusal (entry c.before.before).args.s (entry c.before.before).args.owners.now (entry c.before.before).args.book.now ≡ 0
-good c = sym (book-good _ _ _ (passed c.before) (whole c.before) c.if2.false)
+good : (c : tie.Else2) → book_refusal (entry c.before.before).args.s (entry c.before.before).args.owners.now (entry c.before.before).args.book.now ≡ 0
+good c = sym (book_good _ _ _ (passed c.before) (whole c.before) c.if2.false)
 
 found : (c : tie.Else2) → c.before.before.lowest.result.pointer ≡ lowest (length (entry c.before.before).args.owners.now) (has (entry c.before.before).args.owners.now (entry c.before.before).args.book.now (entry c.before.before).args.owner (entry c.before.before).args.wanted.now)
 found c =
     let a = (entry c.before.before).args in
     c.before.before.lowest.ensures.0
-    ∙ lowest-meets a.owners.now a.book.now (length a.owners.now) (book-passes _ _ _ (good c)).1 a.owner a.wanted.now (length a.owners.now) (omega arith)
+    ∙ lowest_meets a.owners.now a.book.now (length a.owners.now) (book_passes _ _ _ (good c)).1 a.owner a.wanted.now (length a.owners.now) (omega arith)
 
 refused-requires-3 : tie.Need-refused-requires-3
 refused-requires-3 c κs = search rules
 
 returns-3 : tie.Need-returns-3
-unfolding searchAnswer
-returns-3 c = refused-answer 3 _ _ (λ z. absurd (omega arith)) (search-beyond _ _ _ (good c.before.before) _ _ c.before.if3.true) c.refused3.ensures
+unfolding search_answer
+returns-3 c = refused_answer 3 _ _ (λ z. absurd (omega arith)) (search_beyond _ _ _ (good c.before.before) _ _ c.before.if3.true) c.refused3.ensures
 
 refused-requires-4 : tie.Need-refused-requires-4
 refused-requires-4 c κs = search rules
 
 returns-4 : tie.Need-returns-4
-unfolding searchAnswer
+unfolding search_answer
 returns-4 c =
     let e = c.before.before.before in
-    refused-answer 20 _ _ (λ z. absurd (omega arith))
-    (search-nowhere _ _ _ (good e) _ _ c.before.before.if3.false (omega (arith, found e, c.before.if4.true)))
+    refused_answer 20 _ _ (λ z. absurd (omega arith))
+    (search_nowhere _ _ _ (good e) _ _ c.before.before.if3.false (omega (arith, found e, c.before.if4.true)))
     c.refused4.ensures
 
 cast-accepted : tie.Need-overflow-cast-accepted
 cast-accepted c =
     let w = c.before.before.before in
-    omega (arith, most w.before, owners-few _ _ (passed w))
+    omega (arith, most w.before, owners_few _ _ (passed w))
 
 accepted-requires : tie.Need-accepted-requires
 accepted-requires c κs = search rules
 
 returns-5 : tie.Need-returns-5
-unfolding searchAnswer
+unfolding search_answer
 returns-5 c =
     let e = c.before.before.before in
-    accepted-answer _ _
-    (search-found _ _ _ (good e) _ _ c.before.before.if3.false (omega (arith, found e, most e.before.before, c.before.if4.false)))
+    accepted_answer _ _
+    (search_found _ _ _ (good e) _ _ c.before.before.if3.false (omega (arith, found e, most e.before.before, c.before.if4.false)))
     (found e)
     c.accepted.ensures
 
-pub search-spec : {M : Type 1} → statement M
-search-spec =
+pub search_spec : {M : Type 1} → statement M
+search_spec =
     tie.close
     (tie.spec
     owners-refusal-requires

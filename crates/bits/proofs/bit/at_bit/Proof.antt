@@ -12,5 +12,5 @@ shl-result c = search rules
 returns : tie.Need-returns
 returns c = let h : c.args.n < 2 ^ 1 = omega (arith, c.requires.1) in shl_exact 1 c.args.site 64 h (omega (arith, c.requires.0))
 
-pub at-bit-spec : {M : Type 1} → statement M
-at-bit-spec = tie.close (tie.spec shl-result returns)
+pub at_bit_spec : {M : Type 1} → statement M
+at_bit_spec = tie.close (tie.spec shl-result returns)

@@ -14,5 +14,5 @@ returns : tie.Need-returns
 unfolding bit
 returns c = search rules
 
-pub bit-of-spec : {M : Type 1} → statement M
-bit-of-spec = tie.close (tie.spec shr-result cast-result returns)
+pub bit_of_spec : {M : Type 1} → statement M
+bit_of_spec = tie.close (tie.spec shr-result cast-result returns)

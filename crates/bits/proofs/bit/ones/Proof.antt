@@ -11,5 +11,5 @@ cast-result c = omega (arith, ones-le 64 c.args.word c.ranges.word.fits)
 returns : tie.Need-returns
 returns c = search rules
 
-pub ones-spec : {M : Type 1} → statement M
-ones-spec = tie.close (tie.spec cast-result returns)
+pub ones_spec : {M : Type 1} → statement M
+ones_spec = tie.close (tie.spec cast-result returns)

@@ -2,8 +2,8 @@
 use Prim.Native.Nat.{ℕ, ◌^◌, ◌<◌}
 use mathlib.Core.Path.{sym, subst}
 use borrow.Author.Rules.{rules}
-use Rattle.word_cells.proofs.BitLaws.{bit-most, with-bit-below}
-use Rattle.bits.proofs.BitLaws.{bit-inside, put_as}
+use Rattle.word_cells.proofs.BitLaws.{bit_most, with_bit_below}
+use Rattle.bits.proofs.BitLaws.{bit_inside, put_as}
 use Rattle.bits.proofs.bit.with_bit.Statement.{statement}
 use Rattle.bits.proofs.bit.with_bit.Tie as tie
 
@@ -11,10 +11,10 @@ bit-of-requires : tie.Need-bit-of-requires
 bit-of-requires c κs = search rules
 
 at-bit-requires : tie.Need-at-bit-requires
-at-bit-requires c κs = (c.before.requires.0, rw c.bit-of.ensures (bit-most _ _))
+at-bit-requires c κs = (c.before.requires.0, rw c.bit-of.ensures (bit_most _ _))
 
 sub-result : tie.Need-overflow-sub-result
-sub-result c = rw (c.at-bit.ensures, c.before.bit-of.ensures) (bit-inside _ _)
+sub-result c = rw (c.at-bit.ensures, c.before.bit-of.ensures) (bit_inside _ _)
 
 at-bit-requires-2 : tie.Need-at-bit-requires-2
 at-bit-requires-2 c κs = search rules
@@ -26,13 +26,13 @@ add-result c =
     let a = start.args in
     record {
       fits = subst (λ (w : ℕ). w < 2 ^ 64) (sym (put_as a.word a.site a.n b.bit-of.ensures c.before.at-bit.ensures c.at-bit2.ensures))
-          (with-bit-below a.word 64 a.site a.n start.requires.0 start.requires.1 start.ranges.word.fits);
+          (with_bit_below a.word 64 a.site a.n start.requires.0 start.requires.1 start.ranges.word.fits);
     }
 
 returns : tie.Need-returns
 returns c = put_as _ _ _ c.before.before.bit-of.ensures c.before.at-bit.ensures c.at-bit2.ensures
 
-pub with-bit-spec : {M : Type 1} → statement M
-with-bit-spec =
+pub with_bit_spec : {M : Type 1} → statement M
+with_bit_spec =
     tie.close
     (tie.spec bit-of-requires at-bit-requires sub-result at-bit-requires-2 add-result returns)

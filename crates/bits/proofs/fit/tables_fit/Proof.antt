@@ -18,10 +18,10 @@ mul-result : tie.Need-overflow-mul-result
 mul-result c =
     let a = c.before.before.args in
     let z = sized a.sites a.words (sym c.before.sizes-good.ensures ∙ not-false _ c.if1.false) in
-    omega (arith, mul-le-mul z.few-sites z.few-pointers)
+    omega (arith, mul-le-mul z.few_sites z.few_pointers)
 
 returns-2 : tie.Need-returns-2
 returns-2 c = simp (sym c.before.sizes-good.ensures ∙ not-false _ c.if1.false) refl
 
-pub tables-fit-spec : {M : Type 1} → statement M
-tables-fit-spec = tie.close (tie.spec sizes-good-requires returns mul-result returns-2)
+pub tables_fit_spec : {M : Type 1} → statement M
+tables_fit_spec = tie.close (tie.spec sizes-good-requires returns mul-result returns-2)

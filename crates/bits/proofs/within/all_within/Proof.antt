@@ -5,7 +5,7 @@ use native.Mathlib.Omega.{arith}
 use borrow.Author.Rules.{rules}
 use borrow.Author.Tests.{lt-ltb}
 use Rattle.model.specs.Tables.{all_below}
-use Rattle.bits.proofs.BitLaws.{shifted-off}
+use Rattle.bits.proofs.BitLaws.{shifted_off}
 use Rattle.bits.proofs.within.all_within.Statement.{statement}
 use Rattle.bits.proofs.within.all_within.Tie as tie
 
@@ -22,7 +22,7 @@ shr-result : tie.Need-overflow-shr-result
 shr-result c = omega (arith, c.before.before.before.requires, c.if1.false)
 
 returns-2 : tie.Need-returns-2
-returns-2 c = shifted-off c.before.seen.result c.before.before.before.args.s ∙ c.before.seen.ensures c.before.before.before.args.s
+returns-2 c = shifted_off c.before.seen.result c.before.before.before.args.s ∙ c.before.seen.ensures c.before.before.before.args.s
 
-pub all-within-spec : {M : Type 1} → statement M
-all-within-spec = tie.close (tie.spec seen-requires returns shr-result returns-2)
+pub all_within_spec : {M : Type 1} → statement M
+all_within_spec = tie.close (tie.spec seen-requires returns shr-result returns-2)

@@ -47,8 +47,8 @@ returns-3 c =
     rw (eq-eqb a.its a.owner (search rules))
     (c.same_bytes.ensures ∙ holds_same a.book.now a.address.now a.at s.requires c.before.before.if2.false)
 
-pub meets-at-spec : {M : Type 1} → statement M
-meets-at-spec =
+pub meets_at_spec : {M : Type 1} → statement M
+meets_at_spec =
     tie.close
     (tie.spec
     returns

@@ -1,8 +1,8 @@
 -- The tables first, then the slots.
 use borrow.Author.Rules.{rules}
 use Rattle.model.specs.Tables.{Desk, lent}
-use Rattle.model.specs.Flat.{byteCells, heldSlots}
-use Rattle.model.proofs.TablesLaws.{tables-refused, slots-decide, few-of-each}
+use Rattle.model.specs.Flat.{byte_cells, held_slots}
+use Rattle.model.proofs.TablesLaws.{tables_refused, slots_decide, few_of_each}
 use Rattle.bytes.proofs.lent.lent_refusal.Statement.{statement}
 use Rattle.bytes.proofs.lent.lent_refusal.Tie as tie
 
@@ -14,20 +14,20 @@ tables-refusal-requires : tie.Need-tables-refusal-requires
 tables-refusal-requires c κs = search rules
 
 returns : tie.Need-returns
-returns c = tables-refused byteCells heldSlots (given c.before) c.before.tables-refusal.ensures c.if1.true
+returns c = tables_refused byte_cells held_slots (given c.before) c.before.tables-refusal.ensures c.if1.true
 
 all-slots-good-requires : tie.Need-all-slots-good-requires
-all-slots-good-requires c κs = few-of-each byteCells heldSlots (given c.before) c.before.tables-refusal.ensures c.if1.false
+all-slots-good-requires c κs = few_of_each byte_cells held_slots (given c.before) c.before.tables-refusal.ensures c.if1.false
 
 returns-2 : tie.Need-returns-2
 returns-2 c =
     let e = c.before.before in
-    rw (slots-decide byteCells heldSlots (given e.before) e.before.tables-refusal.ensures e.if1.false c.before.all-slots-good.ensures, c.if2.true)
+    rw (slots_decide byte_cells held_slots (given e.before) e.before.tables-refusal.ensures e.if1.false c.before.all-slots-good.ensures, c.if2.true)
 
 returns-3 : tie.Need-returns-3
 returns-3 c =
     let e = c.before.before in
-    rw (slots-decide byteCells heldSlots (given e.before) e.before.tables-refusal.ensures e.if1.false c.before.all-slots-good.ensures, c.if2.false)
+    rw (slots_decide byte_cells held_slots (given e.before) e.before.tables-refusal.ensures e.if1.false c.before.all-slots-good.ensures, c.if2.false)
 
-pub lent-refusal-spec : {M : Type 1} → statement M
-lent-refusal-spec = tie.close (tie.spec tables-refusal-requires returns all-slots-good-requires returns-2 returns-3)
+pub lent_refusal_spec : {M : Type 1} → statement M
+lent_refusal_spec = tie.close (tie.spec tables-refusal-requires returns all-slots-good-requires returns-2 returns-3)

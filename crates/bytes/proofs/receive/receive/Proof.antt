@@ -4,13 +4,13 @@ use mathlib.Core.Path.{◌≡◌, sym, ap, ◌∙◌}
 use native.Mathlib.Omega.{arith}
 use lib.ListN.{length}
 use borrow.Author.Rules.{rules}
-use Rattle.model.specs.Calls.{heldRefusal}
-use Rattle.model.specs.Tables.{Desk, lent, slots_of, messageAt}
-use Rattle.model.specs.Flat.{heldSlots, flat}
-use Rattle.model.proofs.FlatLaws.{held-slots, flat-laws}
-use Rattle.model.proofs.TestLaws.{refused-by-front, refused-by-own, accepted-by-both}
+use Rattle.model.specs.Calls.{held_refusal}
+use Rattle.model.specs.Tables.{Desk, lent, slots_of, message_at}
+use Rattle.model.specs.Flat.{held_slots, flat}
+use Rattle.model.proofs.FlatLaws.{held_slots_lem, flat_laws}
+use Rattle.model.proofs.TestLaws.{refused_by_front, refused_by_own, accepted_by_both}
 use Rattle.model.proofs.ReadyLaws.{Ready}
-use Rattle.model.proofs.ReceiveLaws.{slotNumber, ownNumber, receive-as, Full, slot-full, ready-message, own-as, received_as}
+use Rattle.model.proofs.ReceiveLaws.{slot_number, own_number, receive_as, Full, slot_full, ready_message, own_as, received_as}
 use Rattle.bytes.proofs.receive.receive.Statement.{statement}
 use Rattle.bytes.proofs.receive.receive.Tie as tie
 
@@ -39,50 +39,50 @@ returns : tie.Need-returns
 returns c =
     let f = c.before.before in
     let b = start f in
-    refused-by-front (desk b) _ f.slot-refusal.result _ _ c.before.if1.true f.slot-refusal.ensures c.refused.ensures ∙ receive-as flat (desk b) b.args.slot
+    refused_by_front (desk b) _ f.slot-refusal.result _ _ c.before.if1.true f.slot-refusal.ensures c.refused.ensures ∙ receive_as flat (desk b) b.args.slot
 
 -- 1, 2, 3, 8 are not given
-passed : (c : tie.Else1) → let b = start c.before in slotNumber flat (desk b) b.args.slot ≡ 0
+passed : (c : tie.Else1) → let b = start c.before in slot_number flat (desk b) b.args.slot ≡ 0
 passed c = sym c.before.slot-refusal.ensures ∙ c.if1.false
 
 -- the slot holds a message
 full : (c : tie.Else1) → let b = start c.before in Full flat (desk b) b.args.slot
-full c = let b = start c.before in slot-full flat (desk b) b.args.slot flat-laws (passed c)
+full c = let b = start c.before in slot_full flat (desk b) b.args.slot flat_laws (passed c)
 
-in-pool : (c : tie.Else1) → let a = (start c.before).args in a.slot < slots_of 5 a.pool.now
-in-pool c = (full c).in-pool
+in_pool : (c : tie.Else1) → let a = (start c.before).args in a.slot < slots_of 5 a.pool.now
+in_pool c = (full c).in_pool
 
 -- from the receiver back to the first tests
 abbrev tested : tie.After-receiver → tie.Else1
 tested c = c.before.before.before.before
 
-known : (c : tie.After-receiver) → Ready heldSlots (desk (start (tested c).before)) c.receiver.result c.before.pointer-of.result
+known : (c : tie.After-receiver) → Ready held_slots (desk (start (tested c).before)) c.receiver.result c.before.pointer-of.result
 known c =
     let b = start (tested c).before in
-    ready-message heldSlots (desk b) b.args.slot held-slots (full (tested c)) c.before.before.read-slot.ensures c.receiver.ensures c.before.pointer-of.ensures
+    ready_message held_slots (desk b) b.args.slot held_slots_lem (full (tested c)) c.before.before.read-slot.ensures c.receiver.ensures c.before.pointer-of.ensures
 
 -- the receiver's place
-in-send : (c : tie.After-place-of) → c.place_of.result < length (start (tested c.before).before).args.send.now
-in-send c = rw c.place_of.ensures (known c.before).in-send
+in_send : (c : tie.After-place-of) → c.place_of.result < length (start (tested c.before).before).args.send.now
+in_send c = rw c.place_of.ensures (known c.before).in_send
 
-in-receive : (c : tie.After-place-of) → c.place_of.result < length (start (tested c.before).before).args.receive.now
-in-receive c = rw c.place_of.ensures (known c.before).in-receive
+in_receive : (c : tie.After-place-of) → c.place_of.result < length (start (tested c.before).before).args.receive.now
+in_receive c = rw c.place_of.ensures (known c.before).in_receive
 
 -- from what is decided back to the place
 abbrev place_of : tie.After-decide → tie.After-place-of
 place_of c = c.before.before.before.before.before.before
 
 -- 9 and the message's own, of the desk
-own : (c : tie.After-decide) → let b = start (tested (place_of c).before).before in c.decide.result.number ≡ ownNumber flat (desk b) b.args.slot
+own : (c : tie.After-decide) → let b = start (tested (place_of c).before).before in c.decide.result.number ≡ own_number flat (desk b) b.args.slot
 own c =
     let o = place_of c in
     let r = o.before in
     let b = start (tested r).before in
-    own-as heldSlots (desk b) b.args.slot r.before.before.read-slot.ensures r.receiver.ensures r.before.pointer-of.ensures o.place_of.ensures
-    (c.before.before.before.before.held-refusal.ensures ∙ ap (heldRefusal (slots_of 5 b.args.pool.now) (messageAt 5 b.args.pool.now)) r.before.before.read-slot.ensures) c.decide.ensures
+    own_as held_slots (desk b) b.args.slot r.before.before.read-slot.ensures r.receiver.ensures r.before.pointer-of.ensures o.place_of.ensures
+    (c.before.before.before.before.held-refusal.ensures ∙ ap (held_refusal (slots_of 5 b.args.pool.now) (message_at 5 b.args.pool.now)) r.before.before.read-slot.ensures) c.decide.ensures
 
 read-slot-requires : tie.Need-read-slot-requires
-read-slot-requires c κs = omega (arith, in-pool c.before)
+read-slot-requires c κs = omega (arith, in_pool c.before)
 
 pointer-of-requires : tie.Need-pointer-of-requires
 pointer-of-requires c κs = search rules
@@ -91,7 +91,7 @@ receiver-requires : tie.Need-receiver-requires
 receiver-requires c κs = search rules
 
 place-of-requires : tie.Need-place-of-requires
-place-of-requires c κs = (known c).few-pointers
+place-of-requires c κs = (known c).few_pointers
 
 held-refusal-requires : tie.Need-held-refusal-requires
 held-refusal-requires c κs = search rules
@@ -103,13 +103,13 @@ shared-slice-read-decide : tie.Need-shared-slice-read-decide
 shared-slice-read-decide c = (known c.before.before.before.before).a_pointer
 
 slice-read-decide : tie.Need-slice-read-decide
-slice-read-decide c = in-receive c.before.before.before.before
+slice-read-decide c = in_receive c.before.before.before.before
 
 mul-decide : tie.Need-overflow-mul-decide
-mul-decide c = let o = c.before.before.before.before in omega (arith, in-send o, (start (tested o.before).before).well-formed)
+mul-decide c = let o = c.before.before.before.before in omega (arith, in_send o, (start (tested o.before).before).well_formed)
 
 slice-read-decide-2 : tie.Need-slice-read-decide-2
-slice-read-decide-2 c = in-send c.before.before.before.before.before
+slice-read-decide-2 c = in_send c.before.before.before.before.before
 
 decide-requires : tie.Need-decide-requires
 decide-requires c κs = search rules
@@ -131,19 +131,19 @@ returns-2 c =
     let k = c.before.before.before in
     let t = tested (place_of k).before in
     let b = start t.before in
-    refused-by-own (desk b) _ k.decide.result.number _ _ (passed t) c.before.if2.true (own k) c.refused2.ensures ∙ receive-as flat (desk b) b.args.slot
+    refused_by_own (desk b) _ k.decide.result.number _ _ (passed t) c.before.if2.true (own k) c.refused2.ensures ∙ receive_as flat (desk b) b.args.slot
 
 mul-send : tie.Need-overflow-mul-send
-mul-send c = let o = place_of c.before.before in omega (arith, in-send o, (start (tested o.before).before).well-formed)
+mul-send c = let o = place_of c.before.before in omega (arith, in_send o, (start (tested o.before).before).well_formed)
 
 slice-write-send : tie.Need-slice-write-send
-slice-write-send c = in-send (place_of c.before.before)
+slice-write-send c = in_send (place_of c.before.before)
 
 slice-write-receive : tie.Need-slice-write-receive
-slice-write-receive c = in-receive (place_of c.before.before)
+slice-write-receive c = in_receive (place_of c.before.before)
 
 write-slot-requires : tie.Need-write-slot-requires
-write-slot-requires c κs = omega (arith, in-pool (tested (place_of c.before.before.before).before))
+write-slot-requires c κs = omega (arith, in_pool (tested (place_of c.before.before.before).before))
 
 accepted-requires : tie.Need-accepted-requires
 accepted-requires c κs = search rules
@@ -166,13 +166,13 @@ returns-3 c =
     let r = o.before in
     let t = tested r in
     let b = start t.before in
-    received_as heldSlots (desk b) b.args.slot r.before.before.read-slot.ensures r.receiver.ensures r.before.pointer-of.ensures o.place_of.ensures
+    received_as held_slots (desk b) b.args.slot r.before.before.read-slot.ensures r.receiver.ensures r.before.pointer-of.ensures o.place_of.ensures
     k.before.before.before.before.held-refusal.result k.decide.ensures e.if2.false c.accepted.ensures w.write-slot.ensures
-    ∙ accepted-by-both (desk b) _ _ _ (passed t) (sym (own k) ∙ e.if2.false)
-    ∙ receive-as flat (desk b) b.args.slot
+    ∙ accepted_by_both (desk b) _ _ _ (passed t) (sym (own k) ∙ e.if2.false)
+    ∙ receive_as flat (desk b) b.args.slot
 
-pub receive-spec : {M : Type 1} → statement M
-receive-spec =
+pub receive_spec : {M : Type 1} → statement M
+receive_spec =
     tie.close
     (tie.spec
     slot-refusal-requires

@@ -3,12 +3,12 @@ use mathlib.Core.Path.{◌≡◌, sym, ◌∙◌}
 use native.Mathlib.Omega.{arith}
 use borrow.Author.Rules.{rules}
 use borrow.Author.Tests.{ne_eqb}
-use Rattle.model.specs.Survey.{sheetNumber, sheet}
+use Rattle.model.specs.Survey.{sheet_number, sheet}
 use Rattle.model.specs.Tables.{Desk, lent}
 use Rattle.model.specs.Flat.{flat}
-use Rattle.model.proofs.FlatLaws.{flat-laws}
-use Rattle.slots.proofs.NumberLaws.{sheet-good}
-use Rattle.slots.proofs.SheetLaws.{column-is-site}
+use Rattle.model.proofs.FlatLaws.{flat_laws}
+use Rattle.slots.proofs.NumberLaws.{sheet_good}
+use Rattle.slots.proofs.SheetLaws.{column_is_site}
 use Rattle.bytes.proofs.sheet.sheet_by.Statement.{statement}
 use Rattle.bytes.proofs.sheet.sheet_by.Tie as tie
 
@@ -19,7 +19,7 @@ abbrev desk : tie.Start → Desk
 desk c = lent c.args.s c.args.owners.now c.args.send.now c.args.receive.now c.args.pool.now
 
 -- 1, 2, 3 are not given
-passed : (c : tie.Else1) → sheetNumber flat (desk (start c)) (start c).args.pointer ≡ 0
+passed : (c : tie.Else1) → sheet_number flat (desk (start c)) (start c).args.pointer ≡ 0
 passed c = sym (start c).requires ∙ c.if1.false
 
 blank-requires : tie.Need-blank-requires
@@ -32,13 +32,13 @@ returns c = rw (← c.before.before.before.before.before.before.requires, ne_eqb
 entries-requires : tie.Need-entries-requires
 entries-requires c κs =
     let d = desk (start c) in
-    let good = sheet-good flat d _ (passed c) in
-    let sites = (flat-laws.some-site d good).1 in
-    (flat-laws.few-slots d good, λ slot l. omega (arith, column-is-site flat flat-laws d good slot l, sites))
+    let good = sheet_good flat d _ (passed c) in
+    let sites = (flat_laws.some_site d good).1 in
+    (flat_laws.few_slots d good, λ slot l. omega (arith, column_is_site flat flat_laws d good slot l, sites))
 
 returns-2 : tie.Need-returns-2
 unfolding sheet
 returns-2 c = rw (passed c.before) c.entries.ensures
 
-pub sheet-by-spec : {M : Type 1} → statement M
-sheet-by-spec = tie.close (tie.spec blank-requires returns entries-requires returns-2)
+pub sheet_by_spec : {M : Type 1} → statement M
+sheet_by_spec = tie.close (tie.spec blank-requires returns entries-requires returns-2)

@@ -1,6 +1,6 @@
 -- `byte_of` meets its promise: both numbers are below 16, or not.
 use borrow.Author.Rules.{rules}
-use Rattle.model.proofs.DigitLaws.{byte-of-both, no_byte}
+use Rattle.model.proofs.DigitLaws.{byte_of_both, no_byte}
 use Rattle.lines.proofs.digit.byte_of.Statement.{statement}
 use Rattle.lines.proofs.digit.byte_of.Tie as tie
 
@@ -23,13 +23,13 @@ add-result : tie.Need-overflow-add-result
 add-result c = search rules
 
 returns : tie.Need-returns
-returns c = byte-of-both _ _ _ _ c.before.before.number_of_lem.ensures c.before.number-of2.ensures c.if1.true
+returns c = byte_of_both _ _ _ _ c.before.before.number_of_lem.ensures c.before.number-of2.ensures c.if1.true
 
 returns-2 : tie.Need-returns-2
 returns-2 c = no_byte _ _ _ _ c.before.before.number_of_lem.ensures c.before.number-of2.ensures c.if1.false
 
-pub byte-of-spec : {M : Type 1} → statement M
-byte-of-spec =
+pub byte_of_spec : {M : Type 1} → statement M
+byte_of_spec =
     tie.close
     (tie.spec
     number-of-requires

@@ -24,5 +24,5 @@ returns-4 c =
     let other = c.match.rest in
     simp (ne_eqb _ 1 other.0.0.1, ne_eqb _ 2 other.0.1, ne_eqb _ 3 other.1)
 
-pub call-of-spec : {M : Type 1} → statement M
-call-of-spec = tie.close (tie.spec mul-t7 add-t9 returns returns-2 returns-3 returns-4)
+pub call_of_spec : {M : Type 1} → statement M
+call_of_spec = tie.close (tie.spec mul-t7 add-t9 returns returns-2 returns-3 returns-4)

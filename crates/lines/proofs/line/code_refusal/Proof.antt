@@ -22,5 +22,5 @@ returns-4 c =
     let code = c.before.before.before.args.code in
     simp (ne_eqb code 0 (λ e. omega arith), le-leb 5 code (omega arith), lt-leb code 127 (omega arith), le-leb 128 code (omega arith))
 
-pub code-refusal-spec : {M : Type 1} → statement M
-code-refusal-spec = tie.close (tie.spec returns returns-2 returns-3 returns-4)
+pub code_refusal_spec : {M : Type 1} → statement M
+code_refusal_spec = tie.close (tie.spec returns returns-2 returns-3 returns-4)

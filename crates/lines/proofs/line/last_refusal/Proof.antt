@@ -8,5 +8,5 @@ returns c = simp c.if1.true
 returns-2 : tie.Need-returns-2
 returns-2 c = simp c.if1.false
 
-pub last-refusal-spec : {M : Type 1} → statement M
-last-refusal-spec = tie.close (tie.spec returns returns-2)
+pub last_refusal_spec : {M : Type 1} → statement M
+last_refusal_spec = tie.close (tie.spec returns returns-2)

@@ -4,17 +4,17 @@ use Prim.Native.Nat.{◌<◌}
 use native.Mathlib.Omega.{arith}
 use borrow.Author.Rules.{rules}
 use borrow.Author.Tests.{ne_eqb}
-use Rattle.model.specs.Lines.{readBytes, readLine}
-use Rattle.model.proofs.CallLaws.{each_below, no_bytes, line-by-bytes}
+use Rattle.model.specs.Lines.{read_bytes, read_line}
+use Rattle.model.proofs.CallLaws.{each_below, no_bytes, line_by_bytes}
 use Rattle.lines.proofs.line.read_line.Statement.{statement}
 use Rattle.lines.proofs.line.read_line.Tie as tie
 
 -- past the four reads the line is what its bytes say
 by_bytes : (c : tie.After-byte-at4)
-    → readBytes c.before.before.before.byte_at.result c.before.before.byte-at2.result c.before.byte-at3.result c.byte-at4.result
-    ≡ readLine c.before.before.before.before.before.before.args.line.now
+    → read_bytes c.before.before.before.byte_at.result c.before.before.byte-at2.result c.before.byte-at3.result c.byte-at4.result
+    ≡ read_line c.before.before.before.before.before.before.args.line.now
 by_bytes c =
-    line-by-bytes _ _ _ _ _ c.before.before.before.before.if1.false
+    line_by_bytes _ _ _ _ _ c.before.before.before.before.if1.false
     c.before.before.before.byte_at.ensures c.before.before.byte-at2.ensures c.before.byte-at3.ensures c.byte-at4.ensures
 
 -- the test's four parts
@@ -22,7 +22,7 @@ below : (c : tie.Then2) → (c.before.before.before.before.byte_at.result < 256)
 below c = each_below _ _ _ _ c.if2.true
 
 returns : tie.Need-returns
-unfolding readLine
+unfolding read_line
 returns c = simp (ne_eqb _ _ c.if1.true)
 
 byte-at-requires : tie.Need-byte-at-requires
@@ -58,8 +58,8 @@ returns-2 c = c.read-bytes.ensures ∙ by_bytes c.before.before
 returns-3 : tie.Need-returns-3
 returns-3 c = no_bytes _ _ _ _ c.if2.false ∙ by_bytes c.before
 
-pub read-line-spec : {M : Type 1} → statement M
-read-line-spec =
+pub read_line_spec : {M : Type 1} → statement M
+read_line_spec =
     tie.close
     (tie.spec
     returns

@@ -13,5 +13,5 @@ returns c = simp (lt-ltb _ _ c.if1.true)
 returns-2 : tie.Need-returns-2
 returns-2 c = simp (le-ltb _ _ c.if1.false)
 
-pub past-newline-spec : {M : Type 1} → statement M
-past-newline-spec = tie.close (tie.spec add-result returns returns-2)
+pub past_newline_spec : {M : Type 1} → statement M
+past_newline_spec = tie.close (tie.spec add-result returns returns-2)

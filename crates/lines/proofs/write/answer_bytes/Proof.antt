@@ -1,6 +1,6 @@
 -- `answer_bytes` meets its promise: number, value, and the slot bytes of the message.
 use borrow.Author.Rules.{rules}
-use Rattle.lines.proofs.StoreLaws.{bytes-by-slot}
+use Rattle.lines.proofs.StoreLaws.{bytes_by_slot}
 use Rattle.lines.proofs.write.answer_bytes.Statement.{statement}
 use Rattle.lines.proofs.write.answer_bytes.Tie as tie
 
@@ -29,10 +29,10 @@ array-read-pointer : tie.Need-array-read-pointer
 array-read-pointer c = search rules
 
 returns : tie.Need-returns
-returns c = bytes-by-slot c.before.before.before.args.answer c.slot-bytes.ensures
+returns c = bytes_by_slot c.before.before.before.args.answer c.slot-bytes.ensures
 
-pub answer-bytes-spec : {M : Type 1} → statement M
-answer-bytes-spec =
+pub answer_bytes_spec : {M : Type 1} → statement M
+answer_bytes_spec =
     tie.close
     (tie.spec
     cast-high

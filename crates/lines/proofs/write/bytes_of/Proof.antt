@@ -35,8 +35,8 @@ returns-3 c = ap bytes_of (sym c.before.call3.given.1)
 returns-4 : tie.Need-returns-4
 returns-4 c = ap bytes_of (sym c.before.call4.given.1)
 
-pub bytes-of-spec : {M : Type 1} → statement M
-bytes-of-spec =
+pub bytes_of_spec : {M : Type 1} → statement M
+bytes_of_spec =
     tie.close
     (tie.spec
     enum-known-call

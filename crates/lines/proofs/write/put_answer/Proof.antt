@@ -1,6 +1,6 @@
 -- `put_answer` meets its promise: the line of the answer's bytes.
 use borrow.Author.Rules.{rules}
-use Rattle.model.specs.Transcript.{answerLine}
+use Rattle.model.specs.Transcript.{answer_line}
 use Rattle.lines.proofs.write.put_answer.Statement.{statement}
 use Rattle.lines.proofs.write.put_answer.Tie as tie
 
@@ -17,11 +17,11 @@ same_length : tie.Need-same-length
 same_length c = search rules
 
 returns : tie.Need-returns
-unfolding answerLine
+unfolding answer_line
 returns c = rw c.before.before.before.before.before.answer-bytes.ensures at c.before.before.write-line.ensures
 
-pub put-answer-spec : {M : Type 1} → statement M
-put-answer-spec =
+pub put_answer_spec : {M : Type 1} → statement M
+put_answer_spec =
     tie.close
     (tie.spec
     answer-bytes-requires

@@ -3,7 +3,7 @@ use native.Mathlib.Omega.{arith}
 use native.Mathlib.Numerals.{add-one}
 use lib.ListN.{length-set}
 use borrow.Author.Rules.{rules}
-use Rattle.model.specs.Lines.{digitsOf}
+use Rattle.model.specs.Lines.{digits_of}
 use Rattle.lines.proofs.write.write_byte.Statement.{statement}
 use Rattle.lines.proofs.write.write_byte.Tie as tie
 
@@ -26,11 +26,11 @@ same_length : tie.Need-same-length
 same_length c = search rules
 
 returns : tie.Need-returns
-unfolding digitsOf
+unfolding digits_of
 returns c = rw (add-one, c.digit-of2.ensures, c.before.digit-of.ensures)
 
-pub write-byte-spec : {M : Type 1} → statement M
-write-byte-spec =
+pub write_byte_spec : {M : Type 1} → statement M
+write_byte_spec =
     tie.close
     (tie.spec
     digit-of-requires

@@ -2,7 +2,7 @@
 use native.Mathlib.Omega.{arith}
 use borrow.Author.Rules.{rules}
 use Rattle.model.specs.Lines.{line_of}
-use Rattle.lines.proofs.StoreLaws.{too_short, long-enough}
+use Rattle.lines.proofs.StoreLaws.{too_short, long_enough_lem}
 use Rattle.lines.proofs.write.write_call.Statement.{statement}
 use Rattle.lines.proofs.write.write_call.Tie as tie
 
@@ -33,11 +33,11 @@ returns-2 : tie.Need-returns-2
 unfolding line_of
 returns-2 c =
     let a = c.before.before.before.before.before.before.before.before.before.args in
-    long-enough a.text.now a.call _ (omega arith) c.accepted.ensures
+    long_enough_lem a.text.now a.call _ (omega arith) c.accepted.ensures
     (rw c.before.before.before.before.before.before.bytes_of.ensures at c.before.before.before.write-line.ensures)
 
-pub write-call-spec : {M : Type 1} → statement M
-write-call-spec =
+pub write_call_spec : {M : Type 1} → statement M
+write_call_spec =
     tie.close
     (tie.spec
     refused-requires

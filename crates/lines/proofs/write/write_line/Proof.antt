@@ -1,6 +1,6 @@
 -- `write_line` meets its promise: a newline after the digits.
 use borrow.Author.Rules.{rules}
-use Rattle.lines.proofs.StoreLaws.{newline-after}
+use Rattle.lines.proofs.StoreLaws.{newline_after}
 use Rattle.lines.proofs.write.write_line.Statement.{statement}
 use Rattle.lines.proofs.write.write_line.Tie as tie
 
@@ -20,9 +20,9 @@ same_length : tie.Need-same-length
 same_length c = search rules
 
 returns : tie.Need-returns
-returns c = newline-after _ _ _ _ c.before.before.write_bytes.ensures
+returns c = newline_after _ _ _ _ c.before.before.write_bytes.ensures
 
-pub write-line-spec : {M : Type 1} → statement M
-write-line-spec =
+pub write_line_spec : {M : Type 1} → statement M
+write_line_spec =
     tie.close
     (tie.spec write-bytes-requires mul-text add-text slice-write-text same_length returns)

@@ -1,41 +1,41 @@
 -- What is counted so far is the count over the slots so far.
 use Rattle.std.proofs.Common.{◌≡◌, ◌-◌, ◌≤◌, arith}
-use Rattle.model.specs.Tables.{slots_of, messageAt}
-use Rattle.slots.specs.FirstSlots.{plusOf, minusOf}
+use Rattle.model.specs.Tables.{slots_of, message_at}
+use Rattle.slots.specs.FirstSlots.{plus_of, minus_of}
 use Rattle.numbered.proofs.count.count_rest.Statement.{statement}
 use Rattle.numbered.proofs.count.count_rest.Tie as tie
 
-abbrev invariant-loop : tie.invariant-loop
-invariant-loop pool from site owner p n counts₀ i₀ counts i =
+abbrev invariant_loop : tie.invariant-loop
+invariant_loop pool from site owner p n counts₀ i₀ counts i =
     (i ≤ n)
-    × (counts.plus ≡ plusOf (messageAt 7 pool) i site owner p)
-    × (counts.minus ≡ minusOf (messageAt 7 pool) i site owner p)
+    × (counts.plus ≡ plus_of (message_at 7 pool) i site owner p)
+    × (counts.minus ≡ minus_of (message_at 7 pool) i site owner p)
 
-abbrev decreases-loop : tie.decreases-loop
-decreases-loop pool from site owner p n counts₀ i₀ counts i = n - i
+abbrev decreases_loop : tie.decreases-loop
+decreases_loop pool from site owner p n counts₀ i₀ counts i = n - i
 
-loop-holds : tie.Need-loop-init invariant-loop decreases-loop
+loop-holds : tie.Need-loop-init invariant_loop decreases_loop
 loop-holds c = (omega arith, c.before.requires.1.0, c.before.requires.1.1)
 
-with-slot-requires : tie.Need-with-slot-requires invariant-loop decreases-loop
+with-slot-requires : tie.Need-with-slot-requires invariant_loop decreases_loop
 with-slot-requires c κs = ((omega arith, omega arith), (c.before.loop.invariant.1, c.before.loop.invariant.2))
 
-add-i : tie.Need-overflow-add-i invariant-loop decreases-loop
+add-i : tie.Need-overflow-add-i invariant_loop decreases_loop
 add-i c = omega arith
 
-loop-less : tie.Need-loop-smaller invariant-loop decreases-loop
+loop-less : tie.Need-loop-smaller invariant_loop decreases_loop
 loop-less c = omega arith
 
-loop-again : tie.Need-loop-preserved invariant-loop decreases-loop
+loop-again : tie.Need-loop-preserved invariant_loop decreases_loop
 loop-again c = (omega arith, c.with-slot.ensures.0, c.with-slot.ensures.1)
 
-returns : tie.Need-returns invariant-loop decreases-loop
+returns : tie.Need-returns invariant_loop decreases_loop
 returns c =
     let l = c.before.loop in
     let e : l.i ≡ slots_of 7 c.before.before.before.args.pool.now = omega arith in
     (rw e at l.invariant.1, rw e at l.invariant.2)
 
-pub count-rest-spec : {M : Type 1} → statement M
-count-rest-spec =
+pub count_rest_spec : {M : Type 1} → statement M
+count_rest_spec =
     tie.close
-    (tie.spec invariant-loop decreases-loop loop-holds with-slot-requires add-i loop-less loop-again returns)
+    (tie.spec invariant_loop decreases_loop loop-holds with-slot-requires add-i loop-less loop-again returns)

@@ -7,7 +7,7 @@ lowest-empty-requires : tie.Need-lowest-empty-requires
 lowest-empty-requires c κs = search rules
 
 returns : tie.Need-returns
-returns c = ap₂ (λ slot count. record { slot = slot; count = count }) c.lowest-empty.ensures c.before.before.requires
+returns c = ap₂ (λ slot count. record { slot = slot; count = count }) c.is_lowest.ensures c.before.before.requires
 
-pub search-spec : {M : Type 1} → statement M
-search-spec = tie.close (tie.spec lowest-empty-requires returns)
+pub search_spec : {M : Type 1} → statement M
+search_spec = tie.close (tie.spec lowest-empty-requires returns)

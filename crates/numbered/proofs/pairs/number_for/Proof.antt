@@ -1,17 +1,17 @@
 -- A message has its pair's number.
 use Rattle.std.proofs.Common.{◌≡◌, ◌<◌, false, length, sym, ◌∙◌, arith, rules}
-use Rattle.model.specs.Messages.{isNothing}
+use Rattle.model.specs.Messages.{is_nothing}
 use Rattle.numbered.proofs.pairs.number_for.Statement.{statement}
 use Rattle.numbered.proofs.pairs.number_for.Tie as tie
 
 abbrev start : tie.After-pair-of → tie.Start
 start c = c.before.before.before.before
 
-is-message : (c : tie.After-pair-of) → isNothing (start c).args.m ≡ false
-is-message c = sym c.before.before.is-nothing.ensures ∙ c.before.if1.false
+is_message : (c : tie.After-pair-of) → is_nothing (start c).args.m ≡ false
+is_message c = sym c.before.before.is-nothing.ensures ∙ c.before.if1.false
 
-in-numbers : (c : tie.After-pair-of) → c.pair_of.result < length (start c).args.numbers.now
-in-numbers c = omega (arith, c.pair_of.ensures, (start c).requires (is-message c))
+in_numbers : (c : tie.After-pair-of) → c.pair_of.result < length (start c).args.numbers.now
+in_numbers c = omega (arith, c.pair_of.ensures, (start c).requires (is_message c))
 
 is-nothing-requires : tie.Need-is-nothing-requires
 is-nothing-requires c κs = search rules
@@ -23,16 +23,16 @@ pair-of-requires : tie.Need-pair-of-requires
 pair-of-requires c κs = search rules
 
 mul-result : tie.Need-overflow-mul-result
-mul-result c = omega (arith, in-numbers c, (start c).well-formed)
+mul-result c = omega (arith, in_numbers c, (start c).well_formed)
 
 shared-slice-read-result : tie.Need-shared-slice-read-result
-shared-slice-read-result c = in-numbers c.before
+shared-slice-read-result c = in_numbers c.before
 
 returns-2 : tie.Need-returns-2
-returns-2 c = rw (is-message c.before, c.before.pair_of.ensures)
+returns-2 c = rw (is_message c.before, c.before.pair_of.ensures)
 
-pub number-for-spec : {M : Type 1} → statement M
-number-for-spec =
+pub number_for_spec : {M : Type 1} → statement M
+number_for_spec =
     tie.close
     (tie.spec
     is-nothing-requires

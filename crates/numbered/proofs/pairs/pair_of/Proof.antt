@@ -15,5 +15,5 @@ place-of-requires c κs = search rules
 returns : tie.Need-returns
 returns c = rw (c.place_of.ensures, c.before.receiver.ensures, c.before.before.sender.ensures)
 
-pub pair-of-spec : {M : Type 1} → statement M
-pair-of-spec = tie.close (tie.spec sender-requires receiver-requires place-of-requires returns)
+pub pair_of_spec : {M : Type 1} → statement M
+pair_of_spec = tie.close (tie.spec sender-requires receiver-requires place-of-requires returns)

@@ -1,7 +1,7 @@
 -- The slot takes the message with its pair's number, and the number advances.
 use Rattle.std.proofs.Common.{◌*◌, ap, ◌∙◌, rules}
 use lib.Seq.{sets}
-use Rattle.in_order.specs.Ordered.{numberedSlot}
+use Rattle.in_order.specs.Ordered.{numbered_slot}
 use Rattle.numbered.proofs.post.post.Statement.{statement}
 use Rattle.numbered.proofs.post.post.Tie as tie
 
@@ -25,10 +25,10 @@ returns c =
     let w = c.before.before.before.before.before.before in
     let n = w.before.before in
     let a = n.before.before.before.before.args in
-    (w.write-slot.ensures ∙ ap (λ number. sets a.pool.now (a.slot * 7) (numberedSlot a.m number)) n.number-for.ensures, c.before.before.advance.ensures)
+    (w.write-slot.ensures ∙ ap (λ number. sets a.pool.now (a.slot * 7) (numbered_slot a.m number)) n.number-for.ensures, c.before.before.advance.ensures)
 
-pub post-spec : {M : Type 1} → statement M
-post-spec =
+pub post_spec : {M : Type 1} → statement M
+post_spec =
     tie.close
     (tie.spec
     number-for-requires

@@ -42,8 +42,8 @@ returns c =
     w.write_bytes.ensures
     ∙ ap (λ five. sets a.pool.now (a.slot * 7) (five ++ (a.number / 256 ∷ a.number % 256 ∷ []))) (one_by_one a.message w.before.before.slot-bytes.ensures)
 
-pub write-slot-spec : {M : Type 1} → statement M
-write-slot-spec =
+pub write_slot_spec : {M : Type 1} → statement M
+write_slot_spec =
     tie.close
     (tie.spec
     slot-bytes-requires

@@ -1,15 +1,15 @@
 -- 1 and 2 first, then the names.
 use mathlib.Core.Path.{◌≡◌, sym, ◌∙◌}
 use borrow.Author.Rules.{rules}
-use Rattle.model.specs.Calls.{lentRefusal, front}
-use Rattle.in_order.specs.Ordered.{lentInOrder, ordered}
-use Rattle.model.proofs.TestLaws.{or-else-first}
+use Rattle.model.specs.Calls.{lent_refusal, front}
+use Rattle.in_order.specs.Ordered.{lent_in_order, ordered}
+use Rattle.model.proofs.TestLaws.{or_else_first}
 use Rattle.ordered.proofs.front.front.Statement.{statement}
 use Rattle.ordered.proofs.front.front.Tie as tie
 
 -- 1 and 2 are not given
 passed : (c : tie.Else1) → let a = c.before.before.before.before.before.before.before.before.args in
-    lentRefusal ordered (lentInOrder a.s a.owners.now a.send.now a.receive.now a.pool.now a.posts.now a.takes.now) ≡ 0
+    lent_refusal ordered (lent_in_order a.s a.owners.now a.send.now a.receive.now a.pool.now a.posts.now a.takes.now) ≡ 0
 passed c = sym c.before.lent-refusal.ensures ∙ c.if1.false
 
 lent-refusal-requires : tie.Need-lent-refusal-requires
@@ -17,7 +17,7 @@ lent-refusal-requires c κs = search rules
 
 returns : tie.Need-returns
 unfolding front
-returns c = rw (← c.before.lent-refusal.ensures) (or-else-first _ _ c.if1.true)
+returns c = rw (← c.before.lent-refusal.ensures) (or_else_first _ _ c.if1.true)
 
 returns-2 : tie.Need-returns-2
 unfolding front
@@ -27,5 +27,5 @@ returns-3 : tie.Need-returns-3
 unfolding front
 returns-3 c = rw (passed c.before, c.if2.false)
 
-pub front-spec : {M : Type 1} → statement M
-front-spec = tie.close (tie.spec lent-refusal-requires returns returns-2 returns-3)
+pub front_spec : {M : Type 1} → statement M
+front_spec = tie.close (tie.spec lent-refusal-requires returns returns-2 returns-3)

@@ -7,9 +7,9 @@ use borrow.Author.Rules.{rules}
 use borrow.Author.Tests.{ltb-true, eq-eqb, ne_eqb}
 use Rattle.model.specs.Calls.{front}
 use Rattle.model.specs.Tables.{slots_of}
-use Rattle.in_order.specs.Ordered.{OrderedDesk, lentInOrder, ordered}
-use Rattle.model.proofs.TestLaws.{or-else-first}
-use Rattle.model.proofs.FrontLaws.{front-passed}
+use Rattle.in_order.specs.Ordered.{OrderedDesk, lent_in_order, ordered}
+use Rattle.model.proofs.TestLaws.{or_else_first}
+use Rattle.model.proofs.FrontLaws.{front_passed}
 use Rattle.ordered.proofs.front.slot_refusal.Statement.{statement}
 use Rattle.ordered.proofs.front.slot_refusal.Tie as tie
 
@@ -17,28 +17,28 @@ abbrev start : tie.After-front → tie.Start
 start c = c.before.before.before.before.before.before.before
 
 abbrev desk : tie.Start → OrderedDesk
-desk c = lentInOrder c.args.s c.args.owners.now c.args.send.now c.args.receive.now c.args.pool.now c.args.posts.now c.args.takes.now
+desk c = lent_in_order c.args.s c.args.owners.now c.args.send.now c.args.receive.now c.args.pool.now c.args.posts.now c.args.takes.now
 
 -- 1, 2, 3 are not given
 passed : (c : tie.Else1) → let a = (start c.before).args in front ordered (desk (start c.before)) (ltb a.slot (slots_of 7 a.pool.now)) ≡ 0
 passed c = sym c.before.front.ensures ∙ c.if1.false
 
-in-pool : (c : tie.Else1) → let a = (start c.before).args in a.slot < slots_of 7 a.pool.now
-in-pool c =
+in_pool : (c : tie.Else1) → let a = (start c.before).args in a.slot < slots_of 7 a.pool.now
+in_pool c =
     let a = (start c.before).args in
-    ltb-true a.slot (slots_of 7 a.pool.now) (front-passed ordered (desk (start c.before)) _ (passed c)).1
+    ltb-true a.slot (slots_of 7 a.pool.now) (front_passed ordered (desk (start c.before)) _ (passed c)).1
 
 front-requires : tie.Need-front-requires
 front-requires c κs = search rules
 
 returns : tie.Need-returns
-returns c = rw (← c.before.front.ensures) (or-else-first _ _ c.if1.true)
+returns c = rw (← c.before.front.ensures) (or_else_first _ _ c.if1.true)
 
 mul-if2 : tie.Need-overflow-mul-if2
 mul-if2 c = search rules
 
 shared-slice-read-if2 : tie.Need-shared-slice-read-if2
-shared-slice-read-if2 c = omega (arith, in-pool c.before)
+shared-slice-read-if2 c = omega (arith, in_pool c.before)
 
 returns-2 : tie.Need-returns-2
 returns-2 c = rw (passed c.before.before, eq-eqb _ _ c.if2.true)
@@ -46,6 +46,6 @@ returns-2 c = rw (passed c.before.before, eq-eqb _ _ c.if2.true)
 returns-3 : tie.Need-returns-3
 returns-3 c = rw (passed c.before.before, ne_eqb _ _ c.if2.false)
 
-pub slot-refusal-spec : {M : Type 1} → statement M
-slot-refusal-spec =
+pub slot_refusal_spec : {M : Type 1} → statement M
+slot_refusal_spec =
     tie.close (tie.spec front-requires returns mul-if2 shared-slice-read-if2 returns-2 returns-3)

@@ -6,10 +6,10 @@ use lib.ListN.{length}
 use borrow.Author.Rules.{rules}
 use borrow.Author.Tests.{eq-eqb, ne_eqb}
 use Rattle.model.specs.Calls.{front}
-use Rattle.model.specs.Survey.{shareNumber}
-use Rattle.in_order.specs.Ordered.{OrderedDesk, lentInOrder, ordered}
-use Rattle.model.proofs.TestLaws.{or-else-first}
-use Rattle.model.proofs.FrontLaws.{both-named}
+use Rattle.model.specs.Survey.{share_number}
+use Rattle.in_order.specs.Ordered.{OrderedDesk, lent_in_order, ordered}
+use Rattle.model.proofs.TestLaws.{or_else_first}
+use Rattle.model.proofs.FrontLaws.{both_named}
 use Rattle.ordered.proofs.share.share_number.Statement.{statement}
 use Rattle.ordered.proofs.share.share_number.Tie as tie
 
@@ -17,7 +17,7 @@ abbrev start : tie.After-front → tie.Start
 start c = c.before.before.before.before.before.before.before
 
 abbrev desk : tie.Start → OrderedDesk
-desk c = lentInOrder c.args.s c.args.owners.now c.args.send.now c.args.receive.now c.args.pool.now c.args.posts.now c.args.takes.now
+desk c = lent_in_order c.args.s c.args.owners.now c.args.send.now c.args.receive.now c.args.pool.now c.args.posts.now c.args.takes.now
 
 -- 1, 2, 3 are not given
 passed : (c : tie.Else1) → let a = (start c.before).args in front ordered (desk (start c.before)) (ltb a.site a.s && ltb a.pointer (length a.owners.now)) ≡ 0
@@ -27,20 +27,20 @@ front-requires : tie.Need-front-requires
 front-requires c κs = search rules
 
 returns : tie.Need-returns
-unfolding shareNumber
-returns c = rw (← c.before.front.ensures) (or-else-first _ _ c.if1.true)
+unfolding share_number
+returns c = rw (← c.before.front.ensures) (or_else_first _ _ c.if1.true)
 
 shared-slice-read-if2 : tie.Need-shared-slice-read-if2
-shared-slice-read-if2 c = (both-named ordered (desk (start c.before.before)) _ _ (passed c.before)).a_pointer
+shared-slice-read-if2 c = (both_named ordered (desk (start c.before.before)) _ _ (passed c.before)).a_pointer
 
 returns-2 : tie.Need-returns-2
-unfolding shareNumber
+unfolding share_number
 returns-2 c = rw (passed c.before.before, eq-eqb _ _ c.if2.true)
 
 returns-3 : tie.Need-returns-3
-unfolding shareNumber
+unfolding share_number
 returns-3 c = rw (passed c.before.before, ne_eqb _ _ c.if2.false)
 
-pub share-number-spec : {M : Type 1} → statement M
-share-number-spec =
+pub share_number_spec : {M : Type 1} → statement M
+share_number_spec =
     tie.close (tie.spec front-requires returns shared-slice-read-if2 returns-2 returns-3)

@@ -3,11 +3,11 @@ use mathlib.Core.Path.{◌≡◌, sym, ◌∙◌}
 use native.Mathlib.Omega.{arith}
 use borrow.Author.Rules.{rules}
 use borrow.Author.Tests.{ne_eqb}
-use Rattle.model.specs.Survey.{sheetNumber, sheet}
-use Rattle.in_order.specs.Ordered.{OrderedDesk, lentInOrder, ordered}
-use Rattle.in_order.proofs.OrderedLaws.{ordered-laws}
-use Rattle.slots.proofs.NumberLaws.{sheet-good}
-use Rattle.slots.proofs.SheetLaws.{column-is-site}
+use Rattle.model.specs.Survey.{sheet_number, sheet}
+use Rattle.in_order.specs.Ordered.{OrderedDesk, lent_in_order, ordered}
+use Rattle.in_order.proofs.OrderedLaws.{ordered_laws}
+use Rattle.slots.proofs.NumberLaws.{sheet_good}
+use Rattle.slots.proofs.SheetLaws.{column_is_site}
 use Rattle.ordered.proofs.sheet.sheet_by.Statement.{statement}
 use Rattle.ordered.proofs.sheet.sheet_by.Tie as tie
 
@@ -15,10 +15,10 @@ abbrev start : tie.Else1 → tie.Start
 start c = c.before.before.before.before.before.before.before
 
 abbrev desk : tie.Start → OrderedDesk
-desk c = lentInOrder c.args.s c.args.owners.now c.args.send.now c.args.receive.now c.args.pool.now c.args.posts.now c.args.takes.now
+desk c = lent_in_order c.args.s c.args.owners.now c.args.send.now c.args.receive.now c.args.pool.now c.args.posts.now c.args.takes.now
 
 -- 1, 2, 3 are not given
-passed : (c : tie.Else1) → sheetNumber ordered (desk (start c)) (start c).args.pointer ≡ 0
+passed : (c : tie.Else1) → sheet_number ordered (desk (start c)) (start c).args.pointer ≡ 0
 passed c = sym (start c).requires ∙ c.if1.false
 
 blank-requires : tie.Need-blank-requires
@@ -31,13 +31,13 @@ returns c = rw (← c.before.before.before.before.before.before.before.before.re
 entries-requires : tie.Need-entries-requires
 entries-requires c κs =
     let d = desk (start c) in
-    let good = sheet-good ordered d _ (passed c) in
-    let sites = (ordered-laws.some-site d good).1 in
-    (ordered-laws.few-slots d good, λ slot l. omega (arith, column-is-site ordered ordered-laws d good slot l, sites))
+    let good = sheet_good ordered d _ (passed c) in
+    let sites = (ordered_laws.some_site d good).1 in
+    (ordered_laws.few_slots d good, λ slot l. omega (arith, column_is_site ordered ordered_laws d good slot l, sites))
 
 returns-2 : tie.Need-returns-2
 unfolding sheet
 returns-2 c = rw (passed c.before) c.entries.ensures
 
-pub sheet-by-spec : {M : Type 1} → statement M
-sheet-by-spec = tie.close (tie.spec blank-requires returns entries-requires returns-2)
+pub sheet_by_spec : {M : Type 1} → statement M
+sheet_by_spec = tie.close (tie.spec blank-requires returns entries-requires returns-2)

@@ -2,7 +2,7 @@
 use native.Mathlib.Omega.{arith}
 use borrow.Author.Rules.{rules}
 use Rattle.book.specs.Part.{seen}
-use Rattle.pointer_desk.proofs.EntryLaws.{part-refused, part-inside, part-given}
+use Rattle.pointer_desk.proofs.EntryLaws.{part_refused, part_inside, part_given_lem}
 use Rattle.pointer_desk.proofs.addresses.desk_book_address.Statement.{statement}
 use Rattle.pointer_desk.proofs.addresses.desk_book_address.Tie as tie
 
@@ -19,7 +19,7 @@ returns : tie.Need-returns
 returns c =
     let h = c.before.before in
     let a = (start h).args in
-    part-refused a.sites a.owners.now (seen a.book) a.pointer h.address.ensures c.before.if1.true c.address-number.ensures
+    part_refused a.sites a.owners.now (seen a.book) a.pointer h.address.ensures c.before.if1.true c.address-number.ensures
 
 entry-place-requires : tie.Need-entry-place-requires
 entry-place-requires c κs = search rules
@@ -28,16 +28,16 @@ add-t10 : tie.Need-overflow-add-t10
 add-t10 c =
     let h = c.before.before in
     let a = (start h).args in
-    omega (arith, part-inside a.sites a.owners.now (seen a.book) a.pointer h.address.ensures c.before.if1.false c.entry_IsPlace.ensures)
+    omega (arith, part_inside a.sites a.owners.now (seen a.book) a.pointer h.address.ensures c.before.if1.false c.entry_IsPlace.ensures)
 
 returns-2 : tie.Need-returns-2
 returns-2 c =
     let h = c.before.before in
     let a = (start h).args in
-    part-given a.sites a.owners.now (seen a.book) a.pointer h.address.ensures c.before.if1.false c.entry_IsPlace.ensures
+    part_given_lem a.sites a.owners.now (seen a.book) a.pointer h.address.ensures c.before.if1.false c.entry_IsPlace.ensures
 
-pub desk-book-address-spec : {M : Type 1} → statement M
-desk-book-address-spec =
+pub desk_book_address_spec : {M : Type 1} → statement M
+desk_book_address_spec =
     tie.close
     (tie.spec
     address-requires

@@ -9,5 +9,5 @@ slot-bytes-requires c κs = search rules
 returns : tie.Need-returns
 returns c = rw c.slot-bytes.ensures
 
-pub flat-answer-spec : {M : Type 1} → statement M
-flat-answer-spec = tie.close (tie.spec slot-bytes-requires returns)
+pub flat_answer_spec : {M : Type 1} → statement M
+flat_answer_spec = tie.close (tie.spec slot-bytes-requires returns)

@@ -9,5 +9,5 @@ slot-bytes-requires c κs = search rules
 returns : tie.Need-returns
 returns c = rw c.slot-bytes.ensures
 
-pub ordered-answer-spec : {M : Type 1} → statement M
-ordered-answer-spec = tie.close (tie.spec slot-bytes-requires returns)
+pub ordered_answer_spec : {M : Type 1} → statement M
+ordered_answer_spec = tie.close (tie.spec slot-bytes-requires returns)

@@ -2,7 +2,7 @@
 use borrow.Author.Rules.{rules}
 use Rattle.model.specs.Tables.{Desk, lent}
 use Rattle.model.specs.Flat.{flat}
-use Rattle.pointer_desk.proofs.SheetLaws.{sheet-kept, sheet-written}
+use Rattle.pointer_desk.proofs.SheetLaws.{sheet_kept, sheet_written}
 use Rattle.pointer_desk.proofs.counts.desk_sheet.Statement.{statement}
 use Rattle.pointer_desk.proofs.counts.desk_sheet.Tie as tie
 
@@ -13,13 +13,13 @@ desk c = lent c.args.sites c.args.owners.now c.args.send.now c.args.receive.now 
 returns : tie.Need-returns
 returns c =
     let s = c.before.before.before.before.before.before in
-    sheet-kept flat (desk s) s.args.pointer s.args.sheet.now c.if1.true
+    sheet_kept flat (desk s) s.args.pointer s.args.sheet.now c.if1.true
 
 sheet-number-requires : tie.Need-sheet-number-requires
 sheet-number-requires c κs = search rules
 
 sheet-by-requires : tie.Need-sheet-by-requires
-sheet-by-requires c κs = c.sheet-number.ensures
+sheet-by-requires c κs = c.sheet_number_lem.ensures
 
 write-sheet-requires : tie.Need-write-sheet-requires
 write-sheet-requires c κs = search rules
@@ -33,10 +33,10 @@ returns-2 c =
     let given = c.before.before.before.before.before in
     let asked = given.before in
     let s = asked.before.before.before.before.before.before.before in
-    sheet-written flat (desk s) s.args.pointer s.args.sheet.now asked.before.if1.false asked.sheet-number.ensures given.sheet-by.ensures written.ensures
+    sheet_written flat (desk s) s.args.pointer s.args.sheet.now asked.before.if1.false asked.sheet_number_lem.ensures given.sheet-by.ensures written.ensures
 
-pub desk-sheet-spec : {M : Type 1} → statement M
-desk-sheet-spec =
+pub desk_sheet_spec : {M : Type 1} → statement M
+desk_sheet_spec =
     tie.close
     (tie.spec
     returns

@@ -1,6 +1,6 @@
 -- The call's equation, in C's form.
 use Rattle.pointer_desk.proofs.BoundaryLaws.{in_c}
-use Rattle.pointer_desk.specs.Boundary.{flatAnswer}
+use Rattle.pointer_desk.specs.Boundary.{flat_answer}
 use borrow.Author.Rules.{rules}
 use Rattle.pointer_desk.proofs.machine.desk_ask.Statement.{statement}
 use Rattle.pointer_desk.proofs.machine.desk_ask.Tie as tie
@@ -12,7 +12,7 @@ flat-answer-requires : tie.Need-flat-answer-requires
 flat-answer-requires c κs = search rules
 
 returns : tie.Need-returns
-returns c = in_c flatAnswer c.flat-answer.ensures c.before.ask.ensures
+returns c = in_c flat_answer c.flat-answer.ensures c.before.ask.ensures
 
-pub desk-ask-spec : {M : Type 1} → statement M
-desk-ask-spec = tie.close (tie.spec ask-requires flat-answer-requires returns)
+pub desk_ask_spec : {M : Type 1} → statement M
+desk_ask_spec = tie.close (tie.spec ask-requires flat-answer-requires returns)

@@ -1,6 +1,6 @@
 -- The call's equation, in C's form.
 use Rattle.pointer_desk.proofs.BoundaryLaws.{in_c}
-use Rattle.pointer_desk.specs.Boundary.{flatAnswer}
+use Rattle.pointer_desk.specs.Boundary.{flat_answer}
 use borrow.Author.Rules.{rules}
 use Rattle.pointer_desk.proofs.machine.desk_receive.Statement.{statement}
 use Rattle.pointer_desk.proofs.machine.desk_receive.Tie as tie
@@ -21,10 +21,10 @@ same-length-3 : tie.Need-same-length-3
 same-length-3 c = search rules
 
 returns : tie.Need-returns
-returns c = in_c flatAnswer c.flat-answer.ensures c.before.before.before.before.before.before.before.receive.ensures
+returns c = in_c flat_answer c.flat-answer.ensures c.before.before.before.before.before.before.before.receive.ensures
 
-pub desk-receive-spec : {M : Type 1} → statement M
-desk-receive-spec =
+pub desk_receive_spec : {M : Type 1} → statement M
+desk_receive_spec =
     tie.close
     (tie.spec
     receive-requires

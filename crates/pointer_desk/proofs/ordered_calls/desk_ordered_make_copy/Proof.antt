@@ -1,6 +1,6 @@
 -- The call's equation, in C's form.
 use Rattle.pointer_desk.proofs.BoundaryLaws.{in_c}
-use Rattle.pointer_desk.specs.Boundary.{orderedAnswer}
+use Rattle.pointer_desk.specs.Boundary.{ordered_answer}
 use borrow.Author.Rules.{rules}
 use Rattle.pointer_desk.proofs.ordered_calls.desk_ordered_make_copy.Statement.{statement}
 use Rattle.pointer_desk.proofs.ordered_calls.desk_ordered_make_copy.Tie as tie
@@ -21,8 +21,8 @@ same-length-3 : tie.Need-same-length-3
 same-length-3 c = search rules
 
 returns : tie.Need-returns
-returns c = in_c orderedAnswer c.ordered-answer.ensures c.before.before.before.before.before.before.before.make-copy.ensures
+returns c = in_c ordered_answer c.ordered-answer.ensures c.before.before.before.before.before.before.before.make_copy.ensures
 
-pub desk-ordered-make-copy-spec : {M : Type 1} → statement M
-desk-ordered-make-copy-spec =
+pub desk_ordered_make_copy_spec : {M : Type 1} → statement M
+desk_ordered_make_copy_spec =
     tie.close (tie.spec make-copy-requires ordered-answer-requires same_length same-length-2 same-length-3 returns)

@@ -1,6 +1,6 @@
 -- The call's equation, in C's form.
 use Rattle.pointer_desk.proofs.BoundaryLaws.{in_c}
-use Rattle.pointer_desk.specs.Boundary.{orderedAnswer}
+use Rattle.pointer_desk.specs.Boundary.{ordered_answer}
 use borrow.Author.Rules.{rules}
 use Rattle.pointer_desk.proofs.ordered_calls.desk_ordered_receive.Statement.{statement}
 use Rattle.pointer_desk.proofs.ordered_calls.desk_ordered_receive.Tie as tie
@@ -27,10 +27,10 @@ same-length-5 : tie.Need-same-length-5
 same-length-5 c = search rules
 
 returns : tie.Need-returns
-returns c = in_c orderedAnswer c.ordered-answer.ensures c.before.before.before.before.before.before.before.before.before.before.before.receive.ensures
+returns c = in_c ordered_answer c.ordered-answer.ensures c.before.before.before.before.before.before.before.before.before.before.before.receive.ensures
 
-pub desk-ordered-receive-spec : {M : Type 1} → statement M
-desk-ordered-receive-spec =
+pub desk_ordered_receive_spec : {M : Type 1} → statement M
+desk_ordered_receive_spec =
     tie.close
     (tie.spec
     receive-requires

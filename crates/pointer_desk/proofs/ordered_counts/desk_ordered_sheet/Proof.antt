@@ -1,25 +1,25 @@
 -- Another length leaves the counts; otherwise the sheet is written, row by row.
 use borrow.Author.Rules.{rules}
-use Rattle.in_order.specs.Ordered.{OrderedDesk, lentInOrder, ordered}
-use Rattle.pointer_desk.proofs.SheetLaws.{sheet-kept, sheet-written}
+use Rattle.in_order.specs.Ordered.{OrderedDesk, lent_in_order, ordered}
+use Rattle.pointer_desk.proofs.SheetLaws.{sheet_kept, sheet_written}
 use Rattle.pointer_desk.proofs.ordered_counts.desk_ordered_sheet.Statement.{statement}
 use Rattle.pointer_desk.proofs.ordered_counts.desk_ordered_sheet.Tie as tie
 
 -- the lent desk
 abbrev desk : tie.Start → OrderedDesk
 desk c =
-    lentInOrder c.args.sites c.args.owners.now c.args.send.now c.args.receive.now c.args.pool.now c.args.posts.now c.args.takes.now
+    lent_in_order c.args.sites c.args.owners.now c.args.send.now c.args.receive.now c.args.pool.now c.args.posts.now c.args.takes.now
 
 returns : tie.Need-returns
 returns c =
     let s = c.before.before.before.before.before.before.before.before in
-    sheet-kept ordered (desk s) s.args.pointer s.args.sheet.now c.if1.true
+    sheet_kept ordered (desk s) s.args.pointer s.args.sheet.now c.if1.true
 
 sheet-number-requires : tie.Need-sheet-number-requires
 sheet-number-requires c κs = search rules
 
 sheet-by-requires : tie.Need-sheet-by-requires
-sheet-by-requires c κs = c.sheet-number.ensures
+sheet-by-requires c κs = c.sheet_number_lem.ensures
 
 write-sheet-requires : tie.Need-write-sheet-requires
 write-sheet-requires c κs = search rules
@@ -33,10 +33,10 @@ returns-2 c =
     let given = c.before.before.before.before.before in
     let asked = given.before in
     let s = asked.before.before.before.before.before.before.before.before.before in
-    sheet-written ordered (desk s) s.args.pointer s.args.sheet.now asked.before.if1.false asked.sheet-number.ensures given.sheet-by.ensures written.ensures
+    sheet_written ordered (desk s) s.args.pointer s.args.sheet.now asked.before.if1.false asked.sheet_number_lem.ensures given.sheet-by.ensures written.ensures
 
-pub desk-ordered-sheet-spec : {M : Type 1} → statement M
-desk-ordered-sheet-spec =
+pub desk_ordered_sheet_spec : {M : Type 1} → statement M
+desk_ordered_sheet_spec =
     tie.close
     (tie.spec
     returns

@@ -14,5 +14,5 @@ same_length c = search rules
 returns : tie.Need-returns
 returns c = ap numbered c.before.before.pack.ensures
 
-pub desk-words-pack-spec : {M : Type 1} → statement M
-desk-words-pack-spec = tie.close (tie.spec pack-requires same_length returns)
+pub desk_words_pack_spec : {M : Type 1} → statement M
+desk_words_pack_spec = tie.close (tie.spec pack-requires same_length returns)

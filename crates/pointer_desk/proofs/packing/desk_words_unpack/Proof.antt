@@ -14,5 +14,5 @@ same_length c = search rules
 returns : tie.Need-returns
 returns c = ap numbered c.before.before.unpack.ensures
 
-pub desk-words-unpack-spec : {M : Type 1} → statement M
-desk-words-unpack-spec = tie.close (tie.spec unpack-requires same_length returns)
+pub desk_words_unpack_spec : {M : Type 1} → statement M
+desk_words_unpack_spec = tie.close (tie.spec unpack-requires same_length returns)

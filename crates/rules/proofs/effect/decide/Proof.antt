@@ -7,22 +7,22 @@ use borrow.Author.Tests.{eq-eqb, ne_eqb}
 use Rattle.model.specs.declared.Posted.{Posted}
 use Rattle.model.specs.declared.Posted.TheVariants.{Nothing}
 use Rattle.model.specs.declared.Effect.{Effect}
-use Rattle.model.specs.Refusals.{◌orElse◌}
-use Rattle.model.specs.Messages.{effectUnless}
+use Rattle.model.specs.Refusals.{◌or_else◌}
+use Rattle.model.specs.Messages.{effect_unless}
 use Rattle.rules.proofs.effect.decide.Statement.{statement}
 use Rattle.rules.proofs.effect.decide.Tie as tie
 
 -- a number that is given turns the message down
-too-early : (n k : ℕ) (m : Posted) (owner cell counter : ℕ) → n ≢ 0
-    → ◌≡◌ {A = Effect} (record { number = n; counter = counter; cell = cell; posted = Nothing }) (effectUnless (n or_else k) m owner cell counter)
-too-early zero k m owner cell counter apart = absurd (apart refl)
-too-early (suc n) k m owner cell counter apart = refl
+too_early : (n k : ℕ) (m : Posted) (owner cell counter : ℕ) → n ≢ 0
+    → ◌≡◌ {A = Effect} (record { number = n; counter = counter; cell = cell; posted = Nothing }) (effect_unless (n or_else k) m owner cell counter)
+too_early zero k m owner cell counter apart = absurd (apart refl)
+too_early (suc n) k m owner cell counter apart = refl
 
 stays-requires : tie.Need-stays-requires
 stays-requires c κs = search rules
 
 returns : tie.Need-returns
-returns c = let a = c.before.before.args in c.stays.ensures ∙ too-early a.early _ a.m a.owner a.cell a.counter c.before.if1.true
+returns c = let a = c.before.before.args in c.stays.ensures ∙ too_early a.early _ a.m a.owner a.cell a.counter c.before.if1.true
 
 enum-known-m : tie.Need-enum-known-m
 enum-known-m c = search rules
@@ -90,8 +90,8 @@ returns-7 c = rw (c.becomes3.ensures, c.before.dec-to.ensures, c.before.before.b
 returns-8 : tie.Need-returns-8
 returns-8 c = rw (c.becomes4.ensures, c.before.before.before.if1.false, c.before.enum-told2.given.1)
 
-pub decide-spec : {M : Type 1} → statement M
-decide-spec =
+pub decide_spec : {M : Type 1} → statement M
+decide_spec =
     tie.close
     (tie.spec
     stays-requires

@@ -27,7 +27,7 @@ returns-3 c = rw c.before.m.given.1
 returns-4 : tie.Need-returns-4
 returns-4 c = search rules
 
-pub is-inc-dec-spec : {M : Type 1} → statement M
-is-inc-dec-spec =
+pub is_inc_dec_spec : {M : Type 1} → statement M
+is_inc_dec_spec =
     tie.close
     (tie.spec enum_told enum-told-2 enum-known-m enum-told-3 returns returns-2 returns-3 returns-4)

@@ -29,8 +29,8 @@ returns-3 c = sym (ap slot_of c.before.m3.given.1)
 returns-4 : tie.Need-returns-4
 returns-4 c = sym (ap slot_of c.enum_told.given.1)
 
-pub slot-bytes-spec : {M : Type 1} → statement M
-slot-bytes-spec =
+pub slot_bytes_spec : {M : Type 1} → statement M
+slot_bytes_spec =
     tie.close
     (tie.spec
     enum-known-m

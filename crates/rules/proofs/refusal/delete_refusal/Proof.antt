@@ -1,6 +1,6 @@
 -- Delete's tests 11, 5, 12, 7, in that order.
 use borrow.Author.Rules.{rules}
-use Rattle.model.specs.Calls.{deleteRefusal}
+use Rattle.model.specs.Calls.{delete_refusal}
 use Rattle.rules.proofs.refusal.delete_refusal.Statement.{statement}
 use Rattle.rules.proofs.refusal.delete_refusal.Tie as tie
 
@@ -26,13 +26,13 @@ first-of-requires-3 : tie.Need-first-of-requires-3
 first-of-requires-3 c κs = search rules
 
 returns : tie.Need-returns
-unfolding deleteRefusal
+unfolding delete_refusal
 returns c =
     let w = c.before.before.before in
     rw (c.first-of3.ensures, c.before.first-of2.ensures, c.before.before.first_of.ensures, w.when4.ensures, w.before.when3.ensures, w.before.before.when2.ensures, w.before.before.before.when.ensures)
 
-pub delete-refusal-spec : {M : Type 1} → statement M
-delete-refusal-spec =
+pub delete_refusal_spec : {M : Type 1} → statement M
+delete_refusal_spec =
     tie.close
     (tie.spec
     when-requires

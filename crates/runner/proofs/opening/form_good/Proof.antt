@@ -7,7 +7,7 @@ all-bytes-requires : tie.Need-all-bytes-requires
 all-bytes-requires c κs = search rules
 
 returns : tie.Need-returns
-returns c = rw c.all-bytes.ensures
+returns c = rw c.all_bytes.ensures
 
-pub form-good-spec : {M : Type 1} → statement M
-form-good-spec = tie.close (tie.spec all-bytes-requires returns)
+pub form_good_spec : {M : Type 1} → statement M
+form_good_spec = tie.close (tie.spec all-bytes-requires returns)

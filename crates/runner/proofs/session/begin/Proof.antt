@@ -8,16 +8,16 @@ use lib.ListN.{length, take, drop, length-drop}
 use lib.Seq.{sets, length-take-le, take_all}
 use Rattle.model.specs.declared.Answer.{Answer}
 use Rattle.model.specs.Answers.{refused, Outcome}
-use Rattle.model.specs.Calls.{openDesk}
+use Rattle.model.specs.Calls.{open_desk}
 use Rattle.model.specs.Tables.{Desk}
 use Rattle.model.specs.Flat.{flat}
 use Rattle.model.specs.Lines.{lines_of}
-use Rattle.model.specs.Transcript.{answerLine, ownersIn, fresh, begun, opening, session}
-use Rattle.model.proofs.LineLaws.{end-most}
+use Rattle.model.specs.Transcript.{answer_line, owners_in, fresh, begun, opening, session}
+use Rattle.model.proofs.LineLaws.{end_most}
 use Rattle.runner.specs.Run.{written}
-use Rattle.runner.specs.Opened.{numberIn}
-use Rattle.runner.proofs.OpeningLaws.{opens, opens-fresh, turned_down}
-use Rattle.runner.proofs.BegunLaws.{one_line, stops-turned-down, past_first, begins}
+use Rattle.runner.specs.Opened.{number_in}
+use Rattle.runner.proofs.OpeningLaws.{opens, opens_fresh, turned_down}
+use Rattle.runner.proofs.BegunLaws.{one_line, stops_turned_down, past_first, begins}
 use Rattle.runner.proofs.session.begin.Statement.{statement}
 use Rattle.runner.proofs.session.begin.Tie as tie
 
@@ -25,10 +25,10 @@ abbrev start : tie.After-past-first → tie.Start
 start c = c.before.before.before.before
 
 within : (c : tie.After-past-first) → c.before.line-end.result ≤ length (start c).args.input.now
-within c = omega (arith, c.before.line-end.ensures, end-most (start c).args.input.now 0 (omega arith))
+within c = omega (arith, c.before.line-end.ensures, end_most (start c).args.input.now 0 (omega arith))
 
-line-long : (c : tie.After-past-first) → c.before.line-end.result ≡ length (take c.before.line-end.result (start c).args.input.now)
-line-long c = sym (length-take-le c.before.line-end.result (start c).args.input.now (within c))
+line_long : (c : tie.After-past-first) → c.before.line-end.result ≡ length (take c.before.line-end.result (start c).args.input.now)
+line_long c = sym (length-take-le c.before.line-end.result (start c).args.input.now (within c))
 
 -- the place past the first line
 past : (c : tie.After-past-first) → (0 < c.past_first.result) × (c.past_first.result ≤ length (start c).args.input.now)
@@ -39,8 +39,8 @@ first : (c : tie.After-past-first) → let t = (start c).args.input.now in
 first c = begins (start c).args.input.now (start c).requires.0 c.before.line-end.ensures c.past_first.ensures
 
 -- what follows the first line, as the code cuts it
-rest-whole : (c : tie.After-past-first) → let t = (start c).args.input.now in take (length t - c.past_first.result) (drop c.past_first.result t) ≡ drop c.past_first.result t
-rest-whole c = let t = (start c).args.input.now in take_all (length t - c.past_first.result) (drop c.past_first.result t) (omega (arith, length-drop c.past_first.result t))
+rest_whole : (c : tie.After-past-first) → let t = (start c).args.input.now in take (length t - c.past_first.result) (drop c.past_first.result t) ≡ drop c.past_first.result t
+rest_whole c = let t = (start c).args.input.now in take_all (length t - c.past_first.result) (drop c.past_first.result t) (omega (arith, length-drop c.past_first.result t))
 
 line-end-requires : tie.Need-line-end-requires
 line-end-requires c κs = search rules
@@ -49,7 +49,7 @@ past-first-requires : tie.Need-past-first-requires
 past-first-requires c κs = search rules
 
 slice-aggregate-read-opening : tie.Need-slice-aggregate-read-opening
-slice-aggregate-read-opening c = line-long c.before
+slice-aggregate-read-opening c = line_long c.before
 
 read-opening-requires : tie.Need-read-opening-requires
 read-opening-requires c κs = search rules
@@ -78,12 +78,12 @@ returns c =
     let o = told.before.before in
     let p = o.before.before in
     let a = (start p).args in
-    let answered = c.before.before.before.refused.ensures ∙ ap refused (c.before.before.before.before.number_in.ensures ∙ ap numberIn told.enum_told.given.1) in
-    one_line a.output.now (refused _) (c.before.before.put-answer.ensures ∙ ap (λ (r : Answer). sets a.output.now 0 (answerLine r)) answered)
-    ∙ ap (written a.output.now) (stops-turned-down (lines_of (drop p.past_first.result a.input.now)) (turned_down (take p.before.line-end.result a.input.now) (sym o.read-opening.ensures ∙ told.enum_told.given.1)) ∙ first p)
+    let answered = c.before.before.before.refused.ensures ∙ ap refused (c.before.before.before.before.number_in.ensures ∙ ap number_in told.enum_told.given.1) in
+    one_line a.output.now (refused _) (c.before.before.put-answer.ensures ∙ ap (λ (r : Answer). sets a.output.now 0 (answer_line r)) answered)
+    ∙ ap (written a.output.now) (stops_turned_down (lines_of (drop p.past_first.result a.input.now)) (turned_down (take p.before.line-end.result a.input.now) (sym o.read-opening.ensures ∙ told.enum_told.given.1)) ∙ first p)
 
 slice-aggregate-with-tables : tie.Need-slice-aggregate-with-tables
-slice-aggregate-with-tables c = line-long c.before.before.before.before.before.before
+slice-aggregate-with-tables c = line_long c.before.before.before.before.before.before
 
 sub-with-tables : tie.Need-overflow-sub-with-tables
 sub-with-tables c = let p = c.before.before.before.before.before.before in omega (arith, within p, past p)
@@ -114,12 +114,12 @@ returns-2 c =
     let line = take p.before.line-end.result a.input.now in
     let asked = opens line (sym o.read-opening.ensures ∙ k.opening.given.1) in
     c.before.before.with-tables.ensures
-    ∙ ap (λ (rest : List ℕ). written a.output.now (begun (openDesk flat (fresh k.opening.given.0.0 (ownersIn line) k.opening.given.0.1.0)) (lines_of rest))) (rest-whole p)
-    ∙ ap (λ (x : Outcome Desk). written a.output.now (begun x (lines_of (drop p.past_first.result a.input.now)))) (opens-fresh line asked)
+    ∙ ap (λ (rest : List ℕ). written a.output.now (begun (open_desk flat (fresh k.opening.given.0.0 (owners_in line) k.opening.given.0.1.0)) (lines_of rest))) (rest_whole p)
+    ∙ ap (λ (x : Outcome Desk). written a.output.now (begun x (lines_of (drop p.past_first.result a.input.now)))) (opens_fresh line asked)
     ∙ ap (written a.output.now) (first p)
 
-pub begin-spec : {M : Type 1} → statement M
-begin-spec =
+pub begin_spec : {M : Type 1} → statement M
+begin_spec =
     tie.close
     (tie.spec
     line-end-requires

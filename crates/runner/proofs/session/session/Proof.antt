@@ -3,13 +3,13 @@ use mathlib.Core.Path.{◌≡◌, ap, ◌∙◌}
 use mathlib.Core.List.{List}
 use Prim.Native.Nat.{ℕ}
 use borrow.Author.Rules.{rules}
-use Rattle.model.specs.Calls.{openDesk}
+use Rattle.model.specs.Calls.{open_desk}
 use Rattle.model.specs.Tables.{lent}
 use Rattle.model.specs.Flat.{flat}
 use Rattle.model.specs.Lines.{lines_of}
-use Rattle.model.specs.Transcript.{ownersIn}
+use Rattle.model.specs.Transcript.{owners_in}
 use Rattle.runner.specs.Run.{written}
-use Rattle.runner.proofs.BegunLaws.{one_line, stops, goes_on}
+use Rattle.runner.proofs.BegunLaws.{one_line, stops, goes_on_lem}
 use Rattle.runner.proofs.session.session.Statement.{statement}
 use Rattle.runner.proofs.session.session.Tie as tie
 
@@ -17,9 +17,9 @@ abbrev start : tie.After-open-desk → tie.Start
 start c = c.before.before.before.before.before.before.before.before.before.before.before.before.before.before.before.before
 
 -- the owners that are filled are the line's
-owners-said : (c : tie.After-open-desk) → let a = (start c).args in
-    openDesk flat (lent a.s c.before.before.before.before.before.before.before.fill-owners.new.1.0 a.send.now a.receive.now a.pool.now) ≡ openDesk flat (lent a.s (ownersIn a.line.now) a.send.now a.receive.now a.pool.now)
-owners-said c = let a = (start c).args in ap (λ (l : List ℕ). openDesk flat (lent a.s l a.send.now a.receive.now a.pool.now)) c.before.before.before.before.before.before.before.fill-owners.ensures
+owners_said : (c : tie.After-open-desk) → let a = (start c).args in
+    open_desk flat (lent a.s c.before.before.before.before.before.before.before.fill-owners.new.1.0 a.send.now a.receive.now a.pool.now) ≡ open_desk flat (lent a.s (owners_in a.line.now) a.send.now a.receive.now a.pool.now)
+owners_said c = let a = (start c).args in ap (λ (l : List ℕ). open_desk flat (lent a.s l a.send.now a.receive.now a.pool.now)) c.before.before.before.before.before.before.before.fill-owners.ensures
 
 fill-owners-requires : tie.Need-fill-owners-requires
 fill-owners-requires c κs = search rules
@@ -50,7 +50,7 @@ returns c =
     let o = c.before.before.before.before.before.before.before.before.before.before.before in
     let a = (start o).args in
     one_line a.output.now o.open-desk.result c.before.before.before.put-answer.ensures
-    ∙ ap (written a.output.now) (stops o.open-desk.result _ (lines_of a.rest.now) (o.open-desk.ensures ∙ owners-said o) c.if1.true)
+    ∙ ap (written a.output.now) (stops o.open-desk.result _ (lines_of a.rest.now) (o.open-desk.ensures ∙ owners_said o) c.if1.true)
 
 answer-lines-requires : tie.Need-answer-lines-requires
 answer-lines-requires c κs = search rules
@@ -76,10 +76,10 @@ returns-2 c =
     let e = w.before.before.before.before.before.before in
     let o = e.before.before.before.before.before.before.before.before.before.before.before in
     let a = (start o).args in
-    goes_on o.open-desk.result _ (lines_of a.rest.now) a.output.now (o.open-desk.ensures ∙ owners-said o) e.if1.false e.before.before.before.put-answer.ensures w.answer-lines.ensures
+    goes_on_lem o.open-desk.result _ (lines_of a.rest.now) a.output.now (o.open-desk.ensures ∙ owners_said o) e.if1.false e.before.before.before.put-answer.ensures w.answer_lines.ensures
 
-pub session-spec : {M : Type 1} → statement M
-session-spec =
+pub session_spec : {M : Type 1} → statement M
+session_spec =
     tie.close
     (tie.spec
     fill-owners-requires

@@ -39,7 +39,7 @@ same-length-3 c = search rules
 
 returns : tie.Need-returns
 unfolding step
-returns c = rw c.before.before.before.before.before.before.before.before.before.call.given.1 c.before.before.before.before.make-copy.ensures
+returns c = rw c.before.before.before.before.before.before.before.before.before.call.given.1 c.before.before.before.before.make_copy.ensures
 
 same-length-4 : tie.Need-same-length-4
 same-length-4 c = search rules

@@ -5,25 +5,25 @@ use native.Mathlib.Omega.{arith}
 use borrow.Author.Rules.{rules}
 use lib.ListN.{length, take, replicate, length-replicate}
 use lib.Seq.{length-take-le}
-use Rattle.model.specs.Calls.{openDesk}
+use Rattle.model.specs.Calls.{open_desk}
 use Rattle.model.specs.Tables.{Desk}
 use Rattle.model.specs.Flat.{flat}
 use Rattle.model.specs.Lines.{lines_of}
 use Rattle.model.specs.Transcript.{begun}
 use Rattle.runner.specs.Run.{written}
-use Rattle.runner.specs.Opened.{pointersIn}
-use Rattle.runner.proofs.OpeningLaws.{formed, cells-most, slots-most, fresh-parts}
+use Rattle.runner.specs.Opened.{pointers_in}
+use Rattle.runner.proofs.OpeningLaws.{formed, cells_most, slots_most, fresh_parts}
 use Rattle.runner.proofs.session.with_tables.Statement.{statement}
 use Rattle.runner.proofs.session.with_tables.Tie as tie
 
-few-cells : (c : tie.Start) → c.args.s * pointersIn c.args.line.now ≤ 16384
-few-cells c = cells-most c.args.s (pointersIn c.args.line.now) c.args.slots c.requires.0.shape
+few_cells : (c : tie.Start) → c.args.s * pointers_in c.args.line.now ≤ 16384
+few_cells c = cells_most c.args.s (pointers_in c.args.line.now) c.args.slots c.requires.0.shape
 
-few-slots : (c : tie.Start) → c.args.slots * 5 ≤ 5120
-few-slots c = slots-most c.args.s (pointersIn c.args.line.now) c.args.slots c.requires.0.shape
+few_slots : (c : tie.Start) → c.args.slots * 5 ≤ 5120
+few_slots c = slots_most c.args.s (pointers_in c.args.line.now) c.args.slots c.requires.0.shape
 
-few-owners : (c : tie.Start) → pointersIn c.args.line.now ≤ 256
-few-owners c = omega (arith, (formed c.args.line.now c.requires.0.form).most)
+few_owners : (c : tie.Start) → pointers_in c.args.line.now ≤ 256
+few_owners c = omega (arith, (formed c.args.line.now c.requires.0.form).most)
 
 -- a part of an array of zeros is as long as it was cut
 long : (n m : ℕ) → n ≤ m → n ≡ length (take {A = ℕ} n (replicate m 0))
@@ -33,37 +33,37 @@ sub-g : tie.Need-overflow-sub-g
 sub-g c = omega (arith, (formed c.before.before.before.args.line.now c.before.before.before.requires.0.form).least)
 
 mul-cells : tie.Need-overflow-mul-cells
-mul-cells c = omega (arith, few-cells c.before.before.before)
+mul-cells c = omega (arith, few_cells c.before.before.before)
 
 mul-bytes : tie.Need-overflow-mul-bytes
-mul-bytes c = omega (arith, few-slots c.before.before.before)
+mul-bytes c = omega (arith, few_slots c.before.before.before)
 
 array-borrow-prefix-owners : tie.Need-array-borrow-prefix-owners
-array-borrow-prefix-owners c = few-owners c.before.before.before
+array-borrow-prefix-owners c = few_owners c.before.before.before
 
 slice-aggregate-session : tie.Need-slice-aggregate-session
-slice-aggregate-session c = long _ 256 (few-owners c.before.before.before.before)
+slice-aggregate-session c = long _ 256 (few_owners c.before.before.before.before)
 
 array-borrow-prefix-send : tie.Need-array-borrow-prefix-send
-array-borrow-prefix-send c = few-cells c.before.before.before.before
+array-borrow-prefix-send c = few_cells c.before.before.before.before
 
 slice-aggregate-session-2 : tie.Need-slice-aggregate-session-2
-slice-aggregate-session-2 c = long _ 16384 (few-cells c.before.before.before.before.before)
+slice-aggregate-session-2 c = long _ 16384 (few_cells c.before.before.before.before.before)
 
 array-borrow-prefix-receive : tie.Need-array-borrow-prefix-receive
-array-borrow-prefix-receive c = few-cells c.before.before.before.before.before
+array-borrow-prefix-receive c = few_cells c.before.before.before.before.before
 
 slice-aggregate-session-3 : tie.Need-slice-aggregate-session-3
-slice-aggregate-session-3 c = long _ 16384 (few-cells c.before.before.before.before.before.before)
+slice-aggregate-session-3 c = long _ 16384 (few_cells c.before.before.before.before.before.before)
 
 array-borrow-prefix-pool : tie.Need-array-borrow-prefix-pool
-array-borrow-prefix-pool c = few-slots c.before.before.before.before.before.before
+array-borrow-prefix-pool c = few_slots c.before.before.before.before.before.before
 
 slice-aggregate-session-4 : tie.Need-slice-aggregate-session-4
-slice-aggregate-session-4 c = long _ 5120 (few-slots c.before.before.before.before.before.before.before)
+slice-aggregate-session-4 c = long _ 5120 (few_slots c.before.before.before.before.before.before.before)
 
 session-requires : tie.Need-session-requires
-session-requires c κs = let start = c.before.before.before.before.before.before.before.before in (start.requires.0.form, sym (long _ 256 (few-owners start)), start.requires.1)
+session-requires c κs = let start = c.before.before.before.before.before.before.before.before in (start.requires.0.form, sym (long _ 256 (few_owners start)), start.requires.1)
 
 same_length : tie.Need-same-length
 same_length c = search rules
@@ -73,10 +73,10 @@ returns c =
     let start = c.before.before.before.before.before.before.before.before.before.before.before.before.before.before.before in
     let a = start.args in
     c.before.before.before.before.before.before.session.ensures
-    ∙ ap (λ (d : Desk). written a.output.now (begun (openDesk flat d) (lines_of a.rest.now))) (fresh-parts a.line.now a.s a.slots (few-cells start) (few-slots start))
+    ∙ ap (λ (d : Desk). written a.output.now (begun (open_desk flat d) (lines_of a.rest.now))) (fresh_parts a.line.now a.s a.slots (few_cells start) (few_slots start))
 
-pub with-tables-spec : {M : Type 1} → statement M
-with-tables-spec =
+pub with_tables_spec : {M : Type 1} → statement M
+with_tables_spec =
     tie.close
     (tie.spec
     sub-g

@@ -4,9 +4,9 @@ use mathlib.Core.Path.{refl, ◌∙◌}
 use native.Mathlib.Omega.{arith}
 use lib.Bits.{bit_or}
 use lib.ListN.{length}
-use Rattle.model.specs.Tables.{byteBelow, all_below}
-use Rattle.scan.specs.Word.{bitMask}
-use Rattle.scan.proofs.EightLaws.{seen_covered, seen-ends, eight-bits}
+use Rattle.model.specs.Tables.{byte_below, all_below}
+use Rattle.scan.specs.Word.{bit_mask}
+use Rattle.scan.proofs.EightLaws.{seen_covered, seen_ends, eight_bits}
 use borrow.Author.Rules.{rules}
 use Rattle.scan.proofs.bytes.all_bits.Statement.{statement}
 use Rattle.scan.proofs.bytes.all_bits.Tie as tie
@@ -35,8 +35,8 @@ returns-2 c =
     let bytes = known.before.args.bytes.now in
     let n = length bytes in
     c.only-bits.ensures
-    ∙ seen-ends bitMask (byteBelow 2 bytes) 8 n first.eight-at.result last.eight-at2.result (omega arith) (omega arith)
-    (eight-bits bytes known.shared-slice-known.given 0 first.eight-at.ensures) (eight-bits bytes known.shared-slice-known.given (n - 8) last.eight-at2.ensures)
+    ∙ seen_ends bit_mask (byte_below 2 bytes) 8 n first.eight-at.result last.eight-at2.result (omega arith) (omega arith)
+    (eight_bits bytes known.shared-slice-known.given 0 first.eight-at.ensures) (eight_bits bytes known.shared-slice-known.given (n - 8) last.eight-at2.ensures)
 
 sixteen-shown-requires : tie.Need-sixteen-shown-requires
 sixteen-shown-requires c κs = search rules
@@ -54,7 +54,7 @@ returns-3 c =
     let first = last.before in
     let bytes = first.before.before.before.before.before.args.bytes.now in
     c.only-bits2.ensures
-    ∙ seen-ends bitMask (byteBelow 2 bytes) 16 (length bytes) first.sixteen-shown.result last.sixteen-shown2.result (omega arith) (omega arith)
+    ∙ seen_ends bit_mask (byte_below 2 bytes) 16 (length bytes) first.sixteen-shown.result last.sixteen-shown2.result (omega arith) (omega arith)
     first.sixteen-shown.ensures last.sixteen-shown2.ensures
 
 streams-shown-requires : tie.Need-streams-shown-requires
@@ -80,13 +80,13 @@ returns-4 c =
     let k = n / 32 * 32 in
     let next = max k (n - 32 + 16) in
     let streams = first.streams-shown in
-    let most = seen_covered bitMask (byteBelow 2 bytes) k (n - 32) 16 next streams.result middle.sixteen-shown3.result (omega arith) refl
+    let most = seen_covered bit_mask (byte_below 2 bytes) k (n - 32) 16 next streams.result middle.sixteen-shown3.result (omega arith) refl
     streams.ensures middle.sixteen-shown3.ensures in
     c.only-bits3.ensures
-    ∙ seen_covered bitMask (byteBelow 2 bytes) next (n - 16) 16 n (bit_or streams.result middle.sixteen-shown3.result) last.sixteen-shown4.result (omega arith) (omega arith) most last.sixteen-shown4.ensures
+    ∙ seen_covered bit_mask (byte_below 2 bytes) next (n - 16) 16 n (bit_or streams.result middle.sixteen-shown3.result) last.sixteen-shown4.result (omega arith) (omega arith) most last.sixteen-shown4.ensures
 
-pub all-bits-spec : {M : Type 1} → statement M
-all-bits-spec =
+pub all_bits_spec : {M : Type 1} → statement M
+all_bits_spec =
     tie.close
     (tie.spec
     all-below-requires

@@ -1,6 +1,6 @@
 -- Two words in a row.
 use borrow.Author.Rules.{rules}
-use Rattle.scan.proofs.EightLaws.{sixteen-bits}
+use Rattle.scan.proofs.EightLaws.{sixteen_bits}
 use Rattle.scan.proofs.bytes.sixteen_shown.Statement.{statement}
 use Rattle.scan.proofs.bytes.sixteen_shown.Tie as tie
 
@@ -17,8 +17,8 @@ returns : tie.Need-returns
 returns c =
     let known = c.before.before in
     let a = known.before.args in
-    sixteen-bits a.bytes.now known.shared-slice-known.given a.at c.before.eight-at.ensures c.eight-at2.ensures
+    sixteen_bits a.bytes.now known.shared-slice-known.given a.at c.before.eight-at.ensures c.eight-at2.ensures
 
-pub sixteen-shown-spec : {M : Type 1} → statement M
-sixteen-shown-spec =
+pub sixteen_shown_spec : {M : Type 1} → statement M
+sixteen_shown_spec =
     tie.close (tie.spec eight-at-requires add-eight-at eight-at-requires-2 returns)

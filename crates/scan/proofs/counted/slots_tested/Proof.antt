@@ -4,27 +4,27 @@ use mathlib.Core.Path.{◌≡◌, refl, sym, ◌∙◌}
 use native.Mathlib.Omega.{arith}
 use lib.ListN.{length}
 use borrow.Author.Rules.{rules}
-use Rattle.model.specs.Questions.{every, howMany}
-use Rattle.model.specs.Tables.{slots_of, allSlotsGood}
+use Rattle.model.specs.Questions.{every, how_many}
+use Rattle.model.specs.Tables.{slots_of, all_slots_good}
 use Rattle.scan.specs.Word.{Roomy}
-use Rattle.scan.proofs.WordLaws.{rooms-roomy, words-good}
-use Rattle.scan.proofs.CountedLaws.{empties-counted}
+use Rattle.scan.proofs.WordLaws.{rooms_roomy, words_good}
+use Rattle.scan.proofs.CountedLaws.{empties_counted}
 use Rattle.scan.proofs.counted.slots_tested.Statement.{statement}
 use Rattle.scan.proofs.counted.slots_tested.Tie as tie
 
 roomy : (c : tie.After-rooms-of) → Roomy c.rooms-of.result
-roomy c = let a = c.before.before.before.args in rw c.rooms-of.ensures (rooms-roomy a.s a.g)
+roomy c = let a = c.before.before.before.args in rw c.rooms-of.ensures (rooms_roomy a.s a.g)
 
 -- what the test of the words says of the slots
-all-good : (c : tie.After-good-to-last) → let a = c.before.before.before.before.before.before.before.before.before.args in c.good-to-last.result ≡ allSlotsGood 5 a.s a.g a.pool.now
-all-good c =
+all_good : (c : tie.After-good-to-last) → let a = c.before.before.before.before.before.before.before.before.before.args in c.good-to-last.result ≡ all_slots_good 5 a.s a.g a.pool.now
+all_good c =
     let rooms = c.before.before.before.before.before.before in
     let known = rooms.before.before in
     let a = known.before.args in
-    c.good-to-last.ensures ∙ words-good a.pool.now known.shared-slice-known.given a.s a.g rooms.rooms-of.ensures (omega arith) (omega arith)
+    c.good-to-last.ensures ∙ words_good a.pool.now known.shared-slice-known.given a.s a.g rooms.rooms-of.ensures (omega arith) (omega arith)
 
 returns : tie.Need-returns
-unfolding allSlotsGood every howMany
+unfolding all_slots_good every how_many
 returns c = let e : length c.before.before.args.pool.now / 5 ≡ 0 = omega arith in (rw e, rw e)
 
 rooms-of-requires : tie.Need-rooms-of-requires
@@ -50,21 +50,21 @@ with-rest-requires c κs =
     let pool = known.before.args.pool.now in (
       omega arith,
       groups.groups-counted.ensures.1
-          ∙ empties-counted pool known.shared-slice-known.given rooms.rooms-of.result _ (slots_of 5 pool) (omega arith) (sym c.before.good-to-last.ensures ∙ c.if2.true),
+          ∙ empties_counted pool known.shared-slice-known.given rooms.rooms-of.result _ (slots_of 5 pool) (omega arith) (sym c.before.good-to-last.ensures ∙ c.if2.true),
     )
 
 returns-2 : tie.Need-returns-2
 returns-2 c =
-    let good = sym (all-good c.before.before) ∙ c.before.if2.true in
+    let good = sym (all_good c.before.before) ∙ c.before.if2.true in
     (sym good, rw good c.with_rest.ensures)
 
 returns-3 : tie.Need-returns-3
 returns-3 c =
-    let bad = sym (all-good c.before) ∙ c.if2.false in
+    let bad = sym (all_good c.before) ∙ c.if2.false in
     (sym bad, rw bad)
 
-pub slots-tested-spec : {M : Type 1} → statement M
-slots-tested-spec =
+pub slots_tested_spec : {M : Type 1} → statement M
+slots_tested_spec =
     tie.close
     (tie.spec
     returns

@@ -2,8 +2,8 @@
 use native.Mathlib.Omega.{arith}
 use borrow.Author.Rules.{rules}
 use Rattle.model.specs.Tables.{empty_at}
-use Rattle.model.proofs.EmptySlots.{at-most-all}
-use Rattle.scan.proofs.CountedLaws.{byte-at-most-1, byte-counted}
+use Rattle.model.proofs.EmptySlots.{at_most_all}
+use Rattle.scan.proofs.CountedLaws.{byte_at_most_1, byte_counted}
 use Rattle.scan.proofs.counted.with_empty.Statement.{statement}
 use Rattle.scan.proofs.counted.with_empty.Tie as tie
 
@@ -19,10 +19,10 @@ cast-result c = search rules
 add-result : tie.Need-overflow-add-result
 add-result c =
     let a = c.before.args in
-    omega (arith, c.before.requires.1, at-most-all a.slot (empty_at 5 a.pool.now), byte-at-most-1 (empty_at 5 a.pool.now a.slot), c.before.well-formed)
+    omega (arith, c.before.requires.1, at_most_all a.slot (empty_at 5 a.pool.now), byte_at_most_1 (empty_at 5 a.pool.now a.slot), c.before.well_formed)
 
 returns : tie.Need-returns
-returns c = byte-counted (empty_at 5 c.before.args.pool.now) c.before.args.slot c.before.requires.1
+returns c = byte_counted (empty_at 5 c.before.args.pool.now) c.before.args.slot c.before.requires.1
 
-pub with-empty-spec : {M : Type 1} → statement M
-with-empty-spec = tie.close (tie.spec mul-result shared-slice-read-result cast-result add-result returns)
+pub with_empty_spec : {M : Type 1} → statement M
+with_empty_spec = tie.close (tie.spec mul-result shared-slice-read-result cast-result add-result returns)

@@ -5,17 +5,17 @@ use native.Mathlib.Omega.{arith}
 use lib.ListN.{length}
 use borrow.Author.Rules.{rules}
 use Rattle.model.specs.Questions.{every}
-use Rattle.model.specs.Tables.{allSlotsGood}
+use Rattle.model.specs.Tables.{all_slots_good}
 use Rattle.scan.specs.Word.{Roomy}
-use Rattle.scan.proofs.WordLaws.{rooms-roomy, words-good}
+use Rattle.scan.proofs.WordLaws.{rooms_roomy, words_good}
 use Rattle.scan.proofs.word.all_slots_good.Statement.{statement}
 use Rattle.scan.proofs.word.all_slots_good.Tie as tie
 
 roomy : (c : tie.After-rooms-of) → Roomy c.rooms-of.result
-roomy c = let a = c.before.before.before.args in rw c.rooms-of.ensures (rooms-roomy a.s a.g)
+roomy c = let a = c.before.before.before.args in rw c.rooms-of.ensures (rooms_roomy a.s a.g)
 
 returns : tie.Need-returns
-unfolding allSlotsGood every
+unfolding all_slots_good every
 returns c = let e : length c.before.before.args.pool.now / 5 ≡ 0 = omega arith in rw e
 
 rooms-of-requires : tie.Need-rooms-of-requires
@@ -35,9 +35,9 @@ returns-2 c =
     let rooms = c.before.before.before.before in
     let known = rooms.before.before in
     let a = known.before.args in
-    c.good-to-last.ensures ∙ words-good a.pool.now known.shared-slice-known.given a.s a.g rooms.rooms-of.ensures (omega arith) (omega arith)
+    c.good-to-last.ensures ∙ words_good a.pool.now known.shared-slice-known.given a.s a.g rooms.rooms-of.ensures (omega arith) (omega arith)
 
-pub all-slots-good-spec : {M : Type 1} → statement M
-all-slots-good-spec =
+pub all_slots_good_spec : {M : Type 1} → statement M
+all_slots_good_spec =
     tie.close
     (tie.spec returns rooms-of-requires sub-groups groups-shown-requires good-to-last-requires returns-2)

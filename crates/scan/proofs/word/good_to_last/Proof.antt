@@ -3,8 +3,8 @@ use Prim.Native.Nat.{◌-◌, ◌/◌}
 use native.Mathlib.Omega.{arith}
 use lib.ListN.{length}
 use borrow.Author.Rules.{rules}
-use Rattle.model.specs.Tables.{atSlot}
-use Rattle.scan.specs.Word.{packed, slotMask, wordGood}
+use Rattle.model.specs.Tables.{at_slot}
+use Rattle.scan.specs.Word.{packed, slot_mask, word_good}
 use Rattle.scan.proofs.FieldLaws.{seen_more}
 use Rattle.scan.proofs.word.good_to_last.Statement.{statement}
 use Rattle.scan.proofs.word.good_to_last.Tie as tie
@@ -29,8 +29,8 @@ returns c =
     let rest = c.before.before in
     let a = rest.before.before.args in
     let n = length a.pool.now / 5 in
-    seen_more slotMask (λ i. wordGood a.room.now (atSlot 5 packed a.pool.now i)) (n - 1) n rest.rest-shown.result c.shown.result (omega arith)
+    seen_more slot_mask (λ i. word_good a.room.now (at_slot 5 packed a.pool.now i)) (n - 1) n rest.rest-shown.result c.shown.result (omega arith)
     rest.rest-shown.ensures (rw c.before.word_at.ensures.0 at c.shown.ensures)
 
-pub good-to-last-spec : {M : Type 1} → statement M
-good-to-last-spec = tie.close (tie.spec sub-last mul-rest-shown rest-shown-requires word-at-requires shown-requires returns)
+pub good_to_last_spec : {M : Type 1} → statement M
+good_to_last_spec = tie.close (tie.spec sub-last mul-rest-shown rest-shown-requires word-at-requires shown-requires returns)

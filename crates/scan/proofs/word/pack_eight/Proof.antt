@@ -3,7 +3,7 @@ use Prim.Native.Nat.{◌+◌, ◌*◌}
 use mathlib.Core.Path.{◌∙◌}
 use native.Mathlib.Omega.{arith}
 use borrow.Author.Rules.{rules}
-use Rattle.scan.proofs.WordLaws.{eight-or}
+use Rattle.scan.proofs.WordLaws.{eight_or}
 use Rattle.scan.proofs.word.pack_eight.Statement.{statement}
 use Rattle.scan.proofs.word.pack_eight.Tie as tie
 
@@ -28,9 +28,9 @@ mul-result-3 c = search rules
 returns : tie.Need-returns
 returns c =
     let a = c.before.args in
-    eight-or (c.pack.result + a.f * 1099511627776 + a.g * 281474976710656) a.h (omega arith) ∙ omega arith
+    eight_or (c.pack.result + a.f * 1099511627776 + a.g * 281474976710656) a.h (omega arith) ∙ omega arith
 
-pub pack-eight-spec : {M : Type 1} → statement M
-pack-eight-spec =
+pub pack_eight_spec : {M : Type 1} → statement M
+pack_eight_spec =
     tie.close
     (tie.spec pack-requires mul-result add-result mul-result-2 add-result-2 mul-result-3 returns)

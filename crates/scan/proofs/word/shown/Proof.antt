@@ -3,7 +3,7 @@ use Prim.Native.Nat.{◌+◌, ◌%◌}
 use native.Mathlib.Omega.{arith}
 use lib.ListN.{get_or}
 use borrow.Author.Rules.{rules}
-use Rattle.scan.specs.Word.{slotMask}
+use Rattle.scan.specs.Word.{slot_mask}
 use Rattle.scan.proofs.FieldLaws.{clear_or}
 use Rattle.scan.proofs.word.shown.Statement.{statement}
 use Rattle.scan.proofs.word.shown.Tie as tie
@@ -18,7 +18,7 @@ add-result : tie.Need-overflow-add-result
 add-result c = let a = c.before.args in omega (arith, c.before.requires.1 (a.x % 4))
 
 returns : tie.Need-returns
-returns c = let a = c.before.args in clear_or slotMask a.x (a.x + get_or a.room.now (a.x % 4) 0)
+returns c = let a = c.before.args in clear_or slot_mask a.x (a.x + get_or a.room.now (a.x % 4) 0)
 
-pub shown-spec : {M : Type 1} → statement M
-shown-spec = tie.close (tie.spec mul-result element-copy-out-result add-result returns)
+pub shown_spec : {M : Type 1} → statement M
+shown_spec = tie.close (tie.spec mul-result element-copy-out-result add-result returns)

@@ -12,5 +12,5 @@ shown-requires c κs = search rules
 returns : tie.Need-returns
 returns c = rw c.before.word-within.ensures.0 at c.shown.ensures
 
-pub shown-at-spec : {M : Type 1} → statement M
-shown-at-spec = tie.close (tie.spec word-within-requires shown-requires returns)
+pub shown_at_spec : {M : Type 1} → statement M
+shown_at_spec = tie.close (tie.spec word-within-requires shown-requires returns)

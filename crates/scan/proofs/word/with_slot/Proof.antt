@@ -4,8 +4,8 @@ use mathlib.Core.Path.{ap}
 use native.Mathlib.Omega.{arith}
 use lib.ListN.{get_or}
 use borrow.Author.Rules.{rules}
-use Rattle.model.specs.Tables.{atSlot}
-use Rattle.scan.specs.Word.{packed, slotMask, wordGood}
+use Rattle.model.specs.Tables.{at_slot}
+use Rattle.scan.specs.Word.{packed, slot_mask, word_good}
 use Rattle.scan.proofs.FieldLaws.{apart_more}
 use Rattle.scan.proofs.word.with_slot.Statement.{statement}
 use Rattle.scan.proofs.word.with_slot.Tie as tie
@@ -29,8 +29,8 @@ returns c =
     let word = c.before.before.before.word-within in
     let start = c.before.before.before.before.before in
     let a = start.args in
-    apart_more slotMask (λ k. wordGood a.room.now (atSlot 5 packed a.pool.now k)) a.slot a.seen.numbers a.seen.sums word.result (word.result + get_or a.room.now (word.result % 4) 0) start.requires.1
-    (ap (wordGood a.room.now) word.ensures.0)
+    apart_more slot_mask (λ k. word_good a.room.now (at_slot 5 packed a.pool.now k)) a.slot a.seen.numbers a.seen.sums word.result (word.result + get_or a.room.now (word.result % 4) 0) start.requires.1
+    (ap (word_good a.room.now) word.ensures.0)
 
-pub with-slot-spec : {M : Type 1} → statement M
-with-slot-spec = tie.close (tie.spec word-within-requires mul-sums element-copy-out-sums add-sums returns)
+pub with_slot_spec : {M : Type 1} → statement M
+with_slot_spec = tie.close (tie.spec word-within-requires mul-sums element-copy-out-sums add-sums returns)

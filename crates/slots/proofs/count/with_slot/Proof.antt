@@ -3,24 +3,24 @@ use Prim.Native.Nat.{◌+◌}
 use mathlib.Core.Path.{◌≡◌}
 use native.Mathlib.Omega.{arith}
 use borrow.Author.Rules.{rules}
-use Rattle.model.specs.Tables.{messageAt}
-use Rattle.slots.proofs.PointerLaws.{other-pointer}
-use Rattle.slots.specs.FirstSlots.{plusOf, minusOf}
-use Rattle.slots.proofs.CountLaws.{counted-more, both-counted-more, plus-kept, minus-kept, plus-at-most, minus-at-most}
+use Rattle.model.specs.Tables.{message_at}
+use Rattle.slots.proofs.PointerLaws.{other_pointer}
+use Rattle.slots.specs.FirstSlots.{plus_of, minus_of}
+use Rattle.slots.proofs.CountLaws.{counted_more, both_counted_more, plus_kept, minus_kept, plus_at_most, minus_at_most}
 use Rattle.slots.proofs.count.with_slot.Statement.{statement}
 use Rattle.slots.proofs.count.with_slot.Tie as tie
 
 abbrev start : tie.After-plus → tie.Start
 start c = c.before.before.before.before.before
 
-more-counted : (c : tie.After-plus) → let a = (start c).args in a.counts.plus + c.plus.result ≡ plusOf (messageAt 5 a.pool.now) (a.slot + 1) a.site a.owner a.p
-more-counted c = both-counted-more _ _ (start c).args.slot (start c).requires.1.0 (rw c.before.read-slot.ensures at c.plus.ensures)
+more_counted : (c : tie.After-plus) → let a = (start c).args in a.counts.plus + c.plus.result ≡ plus_of (message_at 5 a.pool.now) (a.slot + 1) a.site a.owner a.p
+more_counted c = both_counted_more _ _ (start c).args.slot (start c).requires.1.0 (rw c.before.read-slot.ensures at c.plus.ensures)
 
-less-counted : (c : tie.After-minus) → let a = (start c.before.before).args in
-    a.counts.minus + c.minus.result ≡ minusOf (messageAt 5 a.pool.now) (a.slot + 1) a.site a.owner a.p
-less-counted c =
+less_counted : (c : tie.After-minus) → let a = (start c.before.before).args in
+    a.counts.minus + c.minus.result ≡ minus_of (message_at 5 a.pool.now) (a.slot + 1) a.site a.owner a.p
+less_counted c =
     let s = start c.before.before in
-    counted-more _ s.args.slot s.pre.1.1 (rw c.before.before.before.read-slot.ensures at c.minus.ensures)
+    counted_more _ s.args.slot s.pre.1.1 (rw c.before.before.before.read-slot.ensures at c.minus.ensures)
 
 mul-if1 : tie.Need-overflow-mul-if1
 mul-if1 c = omega arith
@@ -35,8 +35,8 @@ returns : tie.Need-returns
 returns c =
     let s = c.before.before.before in
     let a = s.args in
-    let other = other-pointer 5 a.pool.now a.slot a.p c.if1.true in
-    (plus-kept (messageAt 5 a.pool.now) a.site a.owner a.p a.slot other s.requires.1.0, minus-kept (messageAt 5 a.pool.now) a.site a.owner a.p a.slot other s.requires.1.1)
+    let other = other_pointer 5 a.pool.now a.slot a.p c.if1.true in
+    (plus_kept (message_at 5 a.pool.now) a.site a.owner a.p a.slot other s.requires.1.0, minus_kept (message_at 5 a.pool.now) a.site a.owner a.p a.slot other s.requires.1.1)
 
 read-slot-requires : tie.Need-read-slot-requires
 read-slot-requires c κs = omega arith
@@ -47,7 +47,7 @@ plus-requires c κs = search rules
 add-more : tie.Need-overflow-add-more
 add-more c =
     let a = (start c.before).args in
-    omega (arith, more-counted c.before, plus-at-most (messageAt 5 a.pool.now) (a.slot + 1) a.site a.owner a.p)
+    omega (arith, more_counted c.before, plus_at_most (message_at 5 a.pool.now) (a.slot + 1) a.site a.owner a.p)
 
 minus-requires : tie.Need-minus-requires
 minus-requires c κs = search rules
@@ -55,13 +55,13 @@ minus-requires c κs = search rules
 add-less : tie.Need-overflow-add-less
 add-less c =
     let a = (start c.before.before.before).args in
-    omega (arith, less-counted c.before, minus-at-most (messageAt 5 a.pool.now) (a.slot + 1) a.site a.owner a.p)
+    omega (arith, less_counted c.before, minus_at_most (message_at 5 a.pool.now) (a.slot + 1) a.site a.owner a.p)
 
 returns-2 : tie.Need-returns-2
-returns-2 c = (more-counted c.before.before.before, less-counted c.before)
+returns-2 c = (more_counted c.before.before.before, less_counted c.before)
 
-pub with-slot-spec : {M : Type 1} → statement M
-with-slot-spec =
+pub with_slot_spec : {M : Type 1} → statement M
+with_slot_spec =
     tie.close
     (tie.spec
     mul-if1

@@ -36,8 +36,8 @@ returns-3 c = rw c.before.before.m3.given.1 c.one-if3.ensures
 returns-4 : tie.Need-returns-4
 returns-4 c = search rules
 
-pub amount-spec : {M : Type 1} → statement M
-amount-spec =
+pub amount_spec : {M : Type 1} → statement M
+amount_spec =
     tie.close
     (tie.spec
     enum-known-m

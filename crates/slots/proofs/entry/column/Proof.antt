@@ -27,8 +27,8 @@ returns-3 c = rw c.before.m3.given.1
 returns-4 : tie.Need-returns-4
 returns-4 c = rw c.enum_told.given.1
 
-pub column-spec : {M : Type 1} → statement M
-column-spec =
+pub column_spec : {M : Type 1} → statement M
+column_spec =
     tie.close
     (tie.spec
     enum-known-m

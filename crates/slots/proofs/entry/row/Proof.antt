@@ -27,7 +27,7 @@ returns-3 c = rw c.enum-told3.given.1
 returns-4 : tie.Need-returns-4
 returns-4 c = rw c.enum-told4.given.1
 
-pub row-spec : {M : Type 1} → statement M
-row-spec =
+pub row_spec : {M : Type 1} → statement M
+row_spec =
     tie.close
     (tie.spec enum_told enum-told-2 enum-told-3 enum-told-4 returns returns-2 returns-3 returns-4)

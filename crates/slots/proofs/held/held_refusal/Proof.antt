@@ -33,8 +33,8 @@ returns-3 c = search rules
 returns-4 : tie.Need-returns-4
 returns-4 c = search rules
 
-pub held-refusal-spec : {M : Type 1} → statement M
-held-refusal-spec =
+pub held_refusal_spec : {M : Type 1} → statement M
+held_refusal_spec =
     tie.close
     (tie.spec
     enum_told

@@ -2,8 +2,8 @@
 use mathlib.Core.Path.{sym}
 use native.Mathlib.Omega.{arith}
 use borrow.Author.Rules.{rules}
-use Rattle.model.specs.Tables.{messageAt}
-use Rattle.slots.proofs.PointerLaws.{other-pointer, no-inc-dec}
+use Rattle.model.specs.Tables.{message_at}
+use Rattle.slots.proofs.PointerLaws.{other_pointer, no_inc_dec}
 use Rattle.slots.proofs.held.holds.Statement.{statement}
 use Rattle.slots.proofs.held.holds.Tie as tie
 
@@ -19,7 +19,7 @@ shared-slice-read-if1 c = omega arith
 returns : tie.Need-returns
 returns c =
     let a = c.before.before.before.args in
-    sym (no-inc-dec a.a a.b a.p (messageAt 5 a.pool.now a.slot) (other-pointer 5 a.pool.now a.slot a.p c.if1.true))
+    sym (no_inc_dec a.a a.b a.p (message_at 5 a.pool.now a.slot) (other_pointer 5 a.pool.now a.slot a.p c.if1.true))
 
 read-slot-requires : tie.Need-read-slot-requires
 read-slot-requires c κs = omega arith
@@ -28,10 +28,10 @@ is-inc-dec-requires : tie.Need-is-inc-dec-requires
 is-inc-dec-requires c κs = search rules
 
 returns-2 : tie.Need-returns-2
-returns-2 c = rw (c.is-inc-dec.ensures, c.before.read-slot.ensures)
+returns-2 c = rw (c.is_inc_dec_lem.ensures, c.before.read-slot.ensures)
 
-pub holds-spec : {M : Type 1} → statement M
-holds-spec =
+pub holds_spec : {M : Type 1} → statement M
+holds_spec =
     tie.close
     (tie.spec
     mul-if1

@@ -43,8 +43,8 @@ same_length c = search rules
 returns : tie.Need-returns
 returns c = simp (add-one, add-two, add-three, add-four) refl
 
-pub write-bytes-spec : {M : Type 1} → statement M
-write-bytes-spec =
+pub write_bytes_spec : {M : Type 1} → statement M
+write_bytes_spec =
     tie.close
     (tie.spec
     mul_at

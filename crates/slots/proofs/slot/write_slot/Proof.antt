@@ -37,8 +37,8 @@ returns c =
     let a = w.before.before.before.before.args in
     w.write_bytes.ensures ∙ ap (sets a.pool.now (a.slot * 5)) (one_by_one a.message w.before.before.slot-bytes.ensures)
 
-pub write-slot-spec : {M : Type 1} → statement M
-write-slot-spec =
+pub write_slot_spec : {M : Type 1} → statement M
+write_slot_spec =
     tie.close
     (tie.spec
     slot-bytes-requires

@@ -1,6 +1,6 @@
 -- Two numbers below half the width: their difference fits, and its bits are read back as it is.
 use borrow.Author.Rules.{rules}
-use Rattle.slots.proofs.SignedLaws.{difference-fits, difference-as}
+use Rattle.slots.proofs.SignedLaws.{difference_fits, difference_as}
 use Rattle.slots.proofs.weight.balance.Statement.{statement}
 use Rattle.slots.proofs.weight.balance.Tie as tie
 
@@ -11,10 +11,10 @@ cast-result-2 : tie.Need-overflow-cast-result-2
 cast-result-2 c = search rules
 
 sub-result : tie.Need-overflow-sub-result
-sub-result c = difference-fits c.args.plus c.args.minus c.requires.0 c.requires.1
+sub-result c = difference_fits c.args.plus c.args.minus c.requires.0 c.requires.1
 
 returns : tie.Need-returns
-returns c = difference-as c.args.plus c.args.minus c.requires.0 c.requires.1
+returns c = difference_as c.args.plus c.args.minus c.requires.0 c.requires.1
 
-pub balance-spec : {M : Type 1} → statement M
-balance-spec = tie.close (tie.spec cast-result cast-result-2 sub-result returns)
+pub balance_spec : {M : Type 1} → statement M
+balance_spec = tie.close (tie.spec cast-result cast-result-2 sub-result returns)

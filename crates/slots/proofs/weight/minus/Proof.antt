@@ -30,8 +30,8 @@ returns-3 c = rw c.before.before.m.given.1 c.one-if.ensures
 returns-4 : tie.Need-returns-4
 returns-4 c = search rules
 
-pub minus-spec : {M : Type 1} → statement M
-minus-spec =
+pub minus_spec : {M : Type 1} → statement M
+minus_spec =
     tie.close
     (tie.spec
     enum_told

@@ -34,8 +34,8 @@ returns-3 c = rw c.enum_told.given.1
 returns-4 : tie.Need-returns-4
 returns-4 c = rw c.enum-told2.given.1
 
-pub plus-spec : {M : Type 1} → statement M
-plus-spec =
+pub plus_spec : {M : Type 1} → statement M
+plus_spec =
     tie.close
     (tie.spec
     enum-known-m

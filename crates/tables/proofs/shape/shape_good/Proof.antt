@@ -18,10 +18,10 @@ mul-cells : tie.Need-overflow-mul-cells
 mul-cells c =
     let a = c.before.before.args in
     let z = sized a.s a.g (sym c.before.sizes-good.ensures ∙ not-false _ c.if1.false) in
-    omega (arith, mul-le-mul z.few-sites z.few-pointers)
+    omega (arith, mul-le-mul z.few_sites z.few_pointers)
 
 returns-2 : tie.Need-returns-2
 returns-2 c = simp (sym c.before.sizes-good.ensures ∙ not-false _ c.if1.false) refl
 
-pub shape-good-spec : {M : Type 1} → statement M
-shape-good-spec = tie.close (tie.spec sizes-good-requires returns mul-cells returns-2)
+pub shape_good_spec : {M : Type 1} → statement M
+shape_good_spec = tie.close (tie.spec sizes-good-requires returns mul-cells returns-2)

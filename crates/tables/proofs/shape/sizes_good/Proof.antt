@@ -6,5 +6,5 @@ use Rattle.tables.proofs.shape.sizes_good.Tie as tie
 returns : tie.Need-returns
 returns c = refl
 
-pub sizes-good-spec : {M : Type 1} → statement M
-sizes-good-spec = tie.close (tie.spec returns)
+pub sizes_good_spec : {M : Type 1} → statement M
+sizes_good_spec = tie.close (tie.spec returns)

@@ -2,10 +2,10 @@
 use Prim.Native.Nat.{◌*◌, ◌%◌}
 use native.Mathlib.Omega.{arith}
 use borrow.Author.Rules.{rules}
-use Rattle.model.proofs.EmptySlots.{at-most-all}
-use Rattle.scan.specs.Word.{eightAt}
-use Rattle.scan.proofs.CountedLaws.{one_of, word-counted}
-use Rattle.wide.specs.Wide.{sevenEmpty}
+use Rattle.model.proofs.EmptySlots.{at_most_all}
+use Rattle.scan.specs.Word.{eight_at}
+use Rattle.scan.proofs.CountedLaws.{one_of, word_counted}
+use Rattle.wide.specs.Wide.{seven_empty}
 use Rattle.wide.proofs.counted.with_counted.Statement.{statement}
 use Rattle.wide.proofs.counted.with_counted.Tie as tie
 
@@ -26,14 +26,14 @@ add-empties c =
     let s = c.before.before.before.before.before in
     let a = s.args in
     let k = c.before.before.word-within.result % 4 in
-    omega (arith, s.requires.5, at-most-all a.slot (sevenEmpty a.pool.now), one_of a.one.now k s.requires.3, s.requires.2, s.well-formed)
+    omega (arith, s.requires.5, at_most_all a.slot (seven_empty a.pool.now), one_of a.one.now k s.requires.3, s.requires.2, s.well_formed)
 
 returns : tie.Need-returns
 returns c =
     let s = c.before.before.before.before.before in
     let a = s.args in
     let word = c.before.before.word-within in
-    (c.before.before.before.with-slot.ensures, word-counted (λ i. eightAt a.pool.now (i * 7)) a.slot word.result s.requires.3 word.ensures s.requires.5)
+    (c.before.before.before.with-slot.ensures, word_counted (λ i. eight_at a.pool.now (i * 7)) a.slot word.result s.requires.3 word.ensures s.requires.5)
 
-pub with-counted-spec : {M : Type 1} → statement M
-with-counted-spec = tie.close (tie.spec with-slot-requires word-within-requires mul-empties element-copy-out-empties add-empties returns)
+pub with_counted_spec : {M : Type 1} → statement M
+with_counted_spec = tie.close (tie.spec with-slot-requires word-within-requires mul-empties element-copy-out-empties add-empties returns)

@@ -5,18 +5,18 @@ use native.Mathlib.Omega.{arith}
 use lib.ListN.{length}
 use borrow.Author.Rules.{rules}
 use Rattle.model.specs.Questions.{every}
-use Rattle.model.specs.Tables.{allSlotsGood}
-use Rattle.in_order.specs.Ordered.{allNumbersGood}
+use Rattle.model.specs.Tables.{all_slots_good}
+use Rattle.in_order.specs.Ordered.{all_numbers_good}
 use Rattle.wide.specs.Wide.{WideRoomy}
-use Rattle.wide.proofs.WideLaws.{rooms-wide, sevens-good}
+use Rattle.wide.proofs.WideLaws.{rooms_wide, sevens_good}
 use Rattle.wide.proofs.word.all_slots_good.Statement.{statement}
 use Rattle.wide.proofs.word.all_slots_good.Tie as tie
 
 roomy : (c : tie.After-wide-rooms) → WideRoomy c.wide-rooms.result
-roomy c = let a = c.before.before.before.before.args in rw c.wide-rooms.ensures (rooms-wide a.s a.g)
+roomy c = let a = c.before.before.before.before.args in rw c.wide-rooms.ensures (rooms_wide a.s a.g)
 
 returns : tie.Need-returns
-unfolding allSlotsGood allNumbersGood every
+unfolding all_slots_good all_numbers_good every
 returns c = let e : length c.before.before.args.pool.now / 7 ≡ 0 = omega arith in rw e
 
 kept-bits-requires : tie.Need-kept-bits-requires
@@ -44,10 +44,10 @@ returns-2 c =
     let rooms = c.before.before.before.before.before.before in
     let known = rooms.before.before.before in
     let a = known.before.args in
-    c.good-to-last.ensures ∙ sevens-good a.pool.now known.shared-slice-known.given a.s a.g rooms.wide-rooms.ensures (omega arith) (omega arith)
+    c.good-to-last.ensures ∙ sevens_good a.pool.now known.shared-slice-known.given a.s a.g rooms.wide-rooms.ensures (omega arith) (omega arith)
 
-pub all-slots-good-spec : {M : Type 1} → statement M
-all-slots-good-spec =
+pub all_slots_good_spec : {M : Type 1} → statement M
+all_slots_good_spec =
     tie.close
     (tie.spec
     returns

@@ -4,7 +4,7 @@ use native.Mathlib.Omega.{arith}
 use lib.ListN.{length}
 use borrow.Author.Rules.{rules}
 use Rattle.scan.proofs.FieldLaws.{seen_more}
-use Rattle.wide.specs.Wide.{wideMask, sevenGood}
+use Rattle.wide.specs.Wide.{wide_mask, seven_good}
 use Rattle.wide.proofs.word.good_to_last.Statement.{statement}
 use Rattle.wide.proofs.word.good_to_last.Tie as tie
 
@@ -28,8 +28,8 @@ returns c =
     let rest = c.before.before in
     let a = rest.before.before.args in
     let n = length a.pool.now / 7 in
-    seen_more wideMask (sevenGood a.room.now a.pool.now) (n - 1) n rest.rest-shown.result c.shown.result (omega arith)
+    seen_more wide_mask (seven_good a.room.now a.pool.now) (n - 1) n rest.rest-shown.result c.shown.result (omega arith)
     rest.rest-shown.ensures (rw c.before.word_at.ensures at c.shown.ensures)
 
-pub good-to-last-spec : {M : Type 1} → statement M
-good-to-last-spec = tie.close (tie.spec sub-last mul-rest-shown rest-shown-requires word-at-requires shown-requires returns)
+pub good_to_last_spec : {M : Type 1} → statement M
+good_to_last_spec = tie.close (tie.spec sub-last mul-rest-shown rest-shown-requires word-at-requires shown-requires returns)

@@ -6,8 +6,8 @@ use lib.Bits.{bit_and}
 use lib.ListN.{get_or}
 use borrow.Author.Rules.{rules}
 use Rattle.scan.proofs.FieldLaws.{clear_or}
-use Rattle.wide.specs.Wide.{wideMask}
-use Rattle.wide.proofs.WideLaws.{kept_low, kept-good}
+use Rattle.wide.specs.Wide.{wide_mask}
+use Rattle.wide.proofs.WideLaws.{kept_low, kept_good}
 use Rattle.wide.proofs.word.shown.Statement.{statement}
 use Rattle.wide.proofs.word.shown.Tie as tie
 
@@ -34,7 +34,7 @@ returns c =
     let s = c.before.before in
     let a = s.args in
     let y = bit_and a.x (get_or a.keep.now (a.x % 4) 0) in
-    clear_or wideMask y (y + get_or a.room.now (a.x % 4) 0) ∙ kept-good a.keep.now a.room.now a.x s.requires.0
+    clear_or wide_mask y (y + get_or a.room.now (a.x % 4) 0) ∙ kept_good a.keep.now a.room.now a.x s.requires.0
 
-pub shown-spec : {M : Type 1} → statement M
-shown-spec = tie.close (tie.spec mul-y element-copy-out-y mul-result element-copy-out-result add-result returns)
+pub shown_spec : {M : Type 1} → statement M
+shown_spec = tie.close (tie.spec mul-y element-copy-out-y mul-result element-copy-out-result add-result returns)

@@ -32,8 +32,8 @@ array-read-t18 c = search rules
 returns : tie.Need-returns
 returns c = rw c.rooms-of.ensures
 
-pub wide-rooms-spec : {M : Type 1} → statement M
-wide-rooms-spec =
+pub wide_rooms_spec : {M : Type 1} → statement M
+wide_rooms_spec =
     tie.close
     (tie.spec
     rooms-of-requires

@@ -6,8 +6,8 @@ use lib.Bits.{bit_and}
 use lib.ListN.{get_or}
 use borrow.Author.Rules.{rules}
 use Rattle.scan.proofs.FieldLaws.{apart_more}
-use Rattle.wide.specs.Wide.{wideMask, wideGood, sevenGood}
-use Rattle.wide.proofs.WideLaws.{kept_low, kept-good, seven-good}
+use Rattle.wide.specs.Wide.{wide_mask, wide_good, seven_good}
+use Rattle.wide.proofs.WideLaws.{kept_low, kept_good, seven_good_lem}
 use Rattle.wide.proofs.word.with_slot.Statement.{statement}
 use Rattle.wide.proofs.word.with_slot.Tie as tie
 
@@ -41,8 +41,8 @@ returns c =
     let a = start.args in
     let x = word.word-within.result in
     let y = bit_and x (get_or a.keep.now (x % 4) 0) in
-    apart_more wideMask (sevenGood a.room.now a.pool.now) a.slot a.seen.numbers a.seen.sums y (y + get_or a.room.now (x % 4) 0) start.requires.1
-    (kept-good a.keep.now a.room.now x start.requires.0.0 ∙ ap (wideGood a.room.now) word.word-within.ensures ∙ seven-good a.pool.now known.shared-slice-known.given a.room.now a.slot)
+    apart_more wide_mask (seven_good a.room.now a.pool.now) a.slot a.seen.numbers a.seen.sums y (y + get_or a.room.now (x % 4) 0) start.requires.1
+    (kept_good a.keep.now a.room.now x start.requires.0.0 ∙ ap (wide_good a.room.now) word.word-within.ensures ∙ seven_good_lem a.pool.now known.shared-slice-known.given a.room.now a.slot)
 
-pub with-slot-spec : {M : Type 1} → statement M
-with-slot-spec = tie.close (tie.spec word-within-requires mul-y element-copy-out-y mul-sums element-copy-out-sums add-sums returns)
+pub with_slot_spec : {M : Type 1} → statement M
+with_slot_spec = tie.close (tie.spec word-within-requires mul-y element-copy-out-y mul-sums element-copy-out-sums add-sums returns)

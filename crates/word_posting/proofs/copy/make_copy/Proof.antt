@@ -8,15 +8,15 @@ use lib.ListN.{length, get_or}
 use borrow.Author.Rules.{rules}
 use borrow.Author.Tests.{ltb-true}
 use Rattle.model.specs.declared.Empties.{Empties}
-use Rattle.model.specs.Calls.{front, copyRefusal, lowestEmpty, copyNumber, makeCopy}
+use Rattle.model.specs.Calls.{front, copy_refusal, lowest_empty, copy_number, make_copy}
 use Rattle.model.specs.Tables.{slots_of, empty_at}
-use Rattle.model.specs.Flat.{heldSlots}
-use Rattle.model.proofs.EmptySlots.{at-most-all}
-use Rattle.model.proofs.TestLaws.{and_both, refused-by-front, refused-by-own, accepted-by-both}
-use Rattle.model.proofs.ReadyLaws.{counted-when-passed}
-use Rattle.model.proofs.EffectLaws.{copy-clear, read_by, copied-by}
-use Rattle.word_cells.specs.WordCells.{wordCells, WordDesk, lentInWords, words}
-use Rattle.words.proofs.KnownLaws.{Ready, ready-names}
+use Rattle.model.specs.Flat.{held_slots}
+use Rattle.model.proofs.EmptySlots.{at_most_all}
+use Rattle.model.proofs.TestLaws.{and_both, refused_by_front, refused_by_own, accepted_by_both}
+use Rattle.model.proofs.ReadyLaws.{counted_when_passed}
+use Rattle.model.proofs.EffectLaws.{copy_clear, read_by, copied_by}
+use Rattle.word_cells.specs.WordCells.{word_cells, WordDesk, lent_in_words, words}
+use Rattle.words.proofs.KnownLaws.{Ready, ready_names}
 use Rattle.word_posting.proofs.copy.make_copy.Statement.{statement}
 use Rattle.word_posting.proofs.copy.make_copy.Tie as tie
 
@@ -24,7 +24,7 @@ abbrev start : tie.After-counted-front → tie.Start
 start c = c.before.before.before.before.before.before.before
 
 abbrev desk : tie.Start → WordDesk
-desk c = lentInWords c.args.s c.args.owners.now c.args.send.now c.args.receive.now c.args.pool.now
+desk c = lent_in_words c.args.s c.args.owners.now c.args.send.now c.args.receive.now c.args.pool.now
 
 counted-front-requires : tie.Need-counted-front-requires
 counted-front-requires c κs = search rules
@@ -39,8 +39,8 @@ same-length-2 : tie.Need-same-length-2
 same-length-2 c = search rules
 
 returns : tie.Need-returns
-unfolding makeCopy copyNumber
-returns c = refused-by-front (desk (start c.before.before)) _ _ _ _ c.before.if1.true c.before.before.counted-front.ensures.0 c.refused.ensures
+unfolding make_copy copy_number
+returns c = refused_by_front (desk (start c.before.before)) _ _ _ _ c.before.if1.true c.before.before.counted-front.ensures.0 c.refused.ensures
 
 -- 1, 2, 3 are not given
 passed : (c : tie.Else1) → let a = (start c.before).args in front words (desk (start c.before)) (ltb a.from a.s && ltb a.to a.s && ltb a.pointer (length a.owners.now)) ≡ 0
@@ -49,11 +49,11 @@ passed c = sym c.before.counted-front.ensures.0 ∙ c.if1.false
 known : (c : tie.Else1) → let a = (start c.before).args in Ready (desk (start c.before)) a.from a.pointer
 known c =
     let a = (start c.before).args in
-    ready-names (desk (start c.before)) _ _ (ltb a.from a.s && ltb a.to a.s) (λ e. ltb-true _ _ (and_both _ _ e).0) refl (passed c)
+    ready_names (desk (start c.before)) _ _ (ltb a.from a.s && ltb a.to a.s) (λ e. ltb-true _ _ (and_both _ _ e).0) refl (passed c)
 
 -- the sender's place
-in-send : (c : tie.After-place-of) → c.place_of.result < length (start c.before.before).args.send.now
-in-send c = rw c.place_of.ensures (known c.before).in-send
+in_send : (c : tie.After-place-of) → c.place_of.result < length (start c.before.before).args.send.now
+in_send c = rw c.place_of.ensures (known c.before).in_send
 
 -- from the call's own tests back to the place
 abbrev place_of : tie.After-copy-refusal → tie.After-place-of
@@ -61,27 +61,27 @@ place_of c = c.before.before.before.before.before.before.before
 
 -- 4, 5, 6, 7, of the desk
 own : (c : tie.After-copy-refusal) → let b = start (place_of c).before.before in let d = desk b in let a = b.args in
-    c.copy-refusal.result ≡ copyRefusal a.from a.to (words.owner d a.pointer) (words.cell d a.from a.pointer) (words.counter d a.from a.pointer) (lowestEmpty words d) (words.slots d)
+    c.copy-refusal.result ≡ copy_refusal a.from a.to (words.owner d a.pointer) (words.cell d a.from a.pointer) (words.counter d a.from a.pointer) (lowest_empty words d) (words.slots d)
 own c =
     let b = start (place_of c).before.before in
     let a = b.args in
-    read_by wordCells heldSlots (desk b) a.from a.pointer (place_of c).place_of.ensures c.before.before.before.before.search.ensures c.before.bit-of.ensures
-    (λ cell counter slot. copyRefusal a.from a.to (words.owner (desk b) a.pointer) cell counter slot (slots_of 5 a.pool.now))
+    read_by word_cells held_slots (desk b) a.from a.pointer (place_of c).place_of.ensures c.before.before.before.before.search.ensures c.before.bit-of.ensures
+    (λ cell counter slot. copy_refusal a.from a.to (words.owner (desk b) a.pointer) cell counter slot (slots_of 5 a.pool.now))
     c.copy-refusal.ensures
 
 place-of-requires : tie.Need-place-of-requires
-place-of-requires c κs = (known c).few-pointers
+place-of-requires c κs = (known c).few_pointers
 
 mul-counter : tie.Need-overflow-mul-counter
-mul-counter c = omega (arith, in-send c, (start c.before.before).well-formed)
+mul-counter c = omega (arith, in_send c, (start c.before.before).well_formed)
 
 slice-read-counter : tie.Need-slice-read-counter
-slice-read-counter c = in-send c.before
+slice-read-counter c = in_send c.before
 
 search-requires : tie.Need-search-requires
 search-requires c κs =
     let e = c.before.before.before in
-    counted-when-passed _ _ _ e.if1.false e.before.counted-front.ensures.1
+    counted_when_passed _ _ _ e.if1.false e.before.counted-front.ensures.1
 
 shared-slice-read-copy-refusal : tie.Need-shared-slice-read-copy-refusal
 shared-slice-read-copy-refusal c = (known c.before.before.before.before.before).a_pointer
@@ -90,10 +90,10 @@ mul-bit-of : tie.Need-overflow-mul-bit-of
 mul-bit-of c = search rules
 
 shared-slice-read-bit-of : tie.Need-shared-slice-read-bit-of
-shared-slice-read-bit-of c = (known c.before.before.before.before.before.before).in-receive
+shared-slice-read-bit-of c = (known c.before.before.before.before.before.before).in_receive
 
 bit-of-requires : tie.Need-bit-of-requires
-bit-of-requires c κs = let k = known c.before.before.before.before.before.before in omega (arith, k.a-site, k.few-sites)
+bit-of-requires c κs = let k = known c.before.before.before.before.before.before in omega (arith, k.a_site, k.few_sites)
 
 copy-refusal-requires : tie.Need-copy-refusal-requires
 copy-refusal-requires c κs = search rules
@@ -108,25 +108,25 @@ same-length-4 : tie.Need-same-length-4
 same-length-4 c = search rules
 
 returns-2 : tie.Need-returns-2
-unfolding makeCopy copyNumber
+unfolding make_copy copy_number
 returns-2 c =
     let k = c.before.before in
     let e = (place_of k).before in
-    refused-by-own (desk (start e.before)) _ k.copy-refusal.result _ _ (passed e) c.before.if2.true (own k) c.refused2.ensures
+    refused_by_own (desk (start e.before)) _ k.copy-refusal.result _ _ (passed e) c.before.if2.true (own k) c.refused2.ensures
 
 -- none of them is given: the counter can rise, and the slot is empty
 clear : (c : tie.Else2) → let k = c.before in let o = place_of k in let a = (start o.before.before).args in
     (get_or a.send.now o.place_of.result 0 ≡ 65535 → ⊥) × (k.before.before.before.before.search.result.slot < slots_of 5 a.pool.now)
-clear c = copy-clear _ _ _ _ _ _ _ (sym c.before.copy-refusal.ensures ∙ c.if2.false)
+clear c = copy_clear _ _ _ _ _ _ _ (sym c.before.copy-refusal.ensures ∙ c.if2.false)
 
 add-send : tie.Need-overflow-add-send
 add-send c = let o = place_of c.before in omega (arith, (clear c).0, c.before.before.before.before.before.before.before.slice-known3.given o.place_of.result)
 
 mul-send : tie.Need-overflow-mul-send
-mul-send c = let o = place_of c.before in omega (arith, in-send o, (start o.before.before).well-formed)
+mul-send c = let o = place_of c.before in omega (arith, in_send o, (start o.before.before).well_formed)
 
 slice-write-send : tie.Need-slice-write-send
-slice-write-send c = in-send (place_of c.before)
+slice-write-send c = in_send (place_of c.before)
 
 write-slot-requires : tie.Need-write-slot-requires
 write-slot-requires c κs = omega (arith, (clear c.before).1)
@@ -135,10 +135,10 @@ cast-accepted-telling : tie.Need-overflow-cast-accepted-telling
 cast-accepted-telling c =
     let k = c.before.before.before.before.before.before in
     let pool = (start (place_of k).before.before).args.pool.now in
-    omega (arith, ap (λ (f : Empties). f.count) k.before.before.before.before.search.ensures, at-most-all (slots_of 5 pool) (empty_at 5 pool), (known (place_of k).before).few-slots)
+    omega (arith, ap (λ (f : Empties). f.count) k.before.before.before.before.search.ensures, at_most_all (slots_of 5 pool) (empty_at 5 pool), (known (place_of k).before).few_slots)
 
 cast-accepted-telling-2 : tie.Need-overflow-cast-accepted-telling-2
-cast-accepted-telling-2 c = let e = c.before.before.before.before.before in omega (arith, (clear e).1, (known (place_of e.before).before).few-slots)
+cast-accepted-telling-2 c = let e = c.before.before.before.before.before in omega (arith, (clear e).1, (known (place_of e.before).before).few_slots)
 
 accepted-telling-requires : tie.Need-accepted-telling-requires
 accepted-telling-requires c κs = search rules
@@ -150,18 +150,18 @@ same-length-6 : tie.Need-same-length-6
 same-length-6 c = search rules
 
 returns-3 : tie.Need-returns-3
-unfolding makeCopy copyNumber
+unfolding make_copy copy_number
 returns-3 c =
     let w = c.before.before.before.before in
     let o = w.before.before in
     let k = o.before in
     let e = (place_of k).before in
     let d = desk (start e.before) in
-    copied-by wordCells heldSlots d _ _ (place_of k).place_of.ensures k.before.before.before.before.search.ensures _ c.accepted-telling.ensures w.write-slot.ensures
-    ∙ accepted-by-both d _ _ _ (passed e) (sym (own k) ∙ o.if2.false)
+    copied_by word_cells held_slots d _ _ (place_of k).place_of.ensures k.before.before.before.before.search.ensures _ c.accepted-telling.ensures w.write-slot.ensures
+    ∙ accepted_by_both d _ _ _ (passed e) (sym (own k) ∙ o.if2.false)
 
-pub make-copy-spec : {M : Type 1} → statement M
-make-copy-spec =
+pub make_copy_spec : {M : Type 1} → statement M
+make_copy_spec =
     tie.close
     (tie.spec
     counted-front-requires

@@ -4,15 +4,15 @@ use mathlib.Core.Path.{◌≡◌, sym, ap, ◌∙◌}
 use native.Mathlib.Omega.{arith}
 use lib.ListN.{length, get_or, set}
 use borrow.Author.Rules.{rules}
-use Rattle.model.specs.Calls.{heldRefusal}
-use Rattle.model.specs.Tables.{slots_of, messageAt}
-use Rattle.model.specs.Flat.{heldSlots}
-use Rattle.model.proofs.TestLaws.{refused-by-front, refused-by-own, accepted-by-both}
-use Rattle.model.proofs.ReceiveLaws.{slotNumber, ownNumber, receive-as, Full, slot-full, own-by, received-by}
-use Rattle.word_cells.specs.WordCells.{wordCells, WordDesk, lentInWords, words}
-use Rattle.word_cells.proofs.WordLaws.{words-laws}
+use Rattle.model.specs.Calls.{held_refusal}
+use Rattle.model.specs.Tables.{slots_of, message_at}
+use Rattle.model.specs.Flat.{held_slots}
+use Rattle.model.proofs.TestLaws.{refused_by_front, refused_by_own, accepted_by_both}
+use Rattle.model.proofs.ReceiveLaws.{slot_number, own_number, receive_as, Full, slot_full, own_by, received_by}
+use Rattle.word_cells.specs.WordCells.{word_cells, WordDesk, lent_in_words, words}
+use Rattle.word_cells.proofs.WordLaws.{words_laws}
 use Rattle.words.proofs.KnownLaws.{Ready}
-use Rattle.word_posting.proofs.MessageLaws.{ready-message, decided-bit}
+use Rattle.word_posting.proofs.MessageLaws.{ready_message, decided_bit}
 use Rattle.word_posting.proofs.receive.receive.Statement.{statement}
 use Rattle.word_posting.proofs.receive.receive.Tie as tie
 
@@ -20,7 +20,7 @@ abbrev start : tie.After-slot-refusal → tie.Start
 start c = c.before.before.before.before.before.before.before.before
 
 abbrev desk : tie.Start → WordDesk
-desk c = lentInWords c.args.s c.args.owners.now c.args.send.now c.args.receive.now c.args.pool.now
+desk c = lent_in_words c.args.s c.args.owners.now c.args.send.now c.args.receive.now c.args.pool.now
 
 slot-refusal-requires : tie.Need-slot-refusal-requires
 slot-refusal-requires c κs = search rules
@@ -41,18 +41,18 @@ returns : tie.Need-returns
 returns c =
     let f = c.before.before in
     let b = start f in
-    refused-by-front (desk b) _ f.slot-refusal.result (slotNumber words (desk b) b.args.slot) (ownNumber words (desk b) b.args.slot) c.before.if1.true f.slot-refusal.ensures c.refused.ensures ∙ receive-as words (desk b) b.args.slot
+    refused_by_front (desk b) _ f.slot-refusal.result (slot_number words (desk b) b.args.slot) (own_number words (desk b) b.args.slot) c.before.if1.true f.slot-refusal.ensures c.refused.ensures ∙ receive_as words (desk b) b.args.slot
 
 -- 1, 2, 3, 8 are not given
-passed : (c : tie.Else1) → let b = start c.before in slotNumber words (desk b) b.args.slot ≡ 0
+passed : (c : tie.Else1) → let b = start c.before in slot_number words (desk b) b.args.slot ≡ 0
 passed c = sym c.before.slot-refusal.ensures ∙ c.if1.false
 
 -- the slot holds a message
 full : (c : tie.Else1) → let b = start c.before in Full words (desk b) b.args.slot
-full c = let b = start c.before in slot-full words (desk b) b.args.slot words-laws (passed c)
+full c = let b = start c.before in slot_full words (desk b) b.args.slot words_laws (passed c)
 
-in-pool : (c : tie.Else1) → let a = (start c.before).args in a.slot < slots_of 5 a.pool.now
-in-pool c = (full c).in-pool
+in_pool : (c : tie.Else1) → let a = (start c.before).args in a.slot < slots_of 5 a.pool.now
+in_pool c = (full c).in_pool
 
 -- from the receiver back to the first tests
 abbrev tested : tie.After-receiver → tie.Else1
@@ -61,27 +61,27 @@ tested c = c.before.before.before.before
 known : (c : tie.After-receiver) → Ready (desk (start (tested c).before)) c.receiver.result c.before.pointer-of.result
 known c =
     let b = start (tested c).before in
-    ready-message (desk b) b.args.slot (full (tested c)) c.before.before.read-slot.ensures c.receiver.ensures c.before.pointer-of.ensures
+    ready_message (desk b) b.args.slot (full (tested c)) c.before.before.read-slot.ensures c.receiver.ensures c.before.pointer-of.ensures
 
 -- the receiver's place
-in-send : (c : tie.After-place-of) → c.place_of.result < length (start (tested c.before).before).args.send.now
-in-send c = rw c.place_of.ensures (known c.before).in-send
+in_send : (c : tie.After-place-of) → c.place_of.result < length (start (tested c.before).before).args.send.now
+in_send c = rw c.place_of.ensures (known c.before).in_send
 
 -- from what is decided back to the place
 abbrev place_of : tie.After-decide → tie.After-place-of
 place_of c = c.before.before.before.before.before.before.before
 
 -- 9 and the message's own, of the desk
-own : (c : tie.After-decide) → let b = start (tested (place_of c).before).before in c.decide.result.number ≡ ownNumber words (desk b) b.args.slot
+own : (c : tie.After-decide) → let b = start (tested (place_of c).before).before in c.decide.result.number ≡ own_number words (desk b) b.args.slot
 own c =
     let o = place_of c in
     let r = o.before in
     let b = start (tested r).before in
-    own-by wordCells heldSlots (desk b) b.args.slot r.before.before.read-slot.ensures r.receiver.ensures r.before.pointer-of.ensures o.place_of.ensures
-    _ (c.before.before.before.before.before.held-refusal.ensures ∙ ap (heldRefusal (slots_of 5 b.args.pool.now) (messageAt 5 b.args.pool.now)) r.before.before.read-slot.ensures) c.decide.ensures
+    own_by word_cells held_slots (desk b) b.args.slot r.before.before.read-slot.ensures r.receiver.ensures r.before.pointer-of.ensures o.place_of.ensures
+    _ (c.before.before.before.before.before.held-refusal.ensures ∙ ap (held_refusal (slots_of 5 b.args.pool.now) (message_at 5 b.args.pool.now)) r.before.before.read-slot.ensures) c.decide.ensures
 
 read-slot-requires : tie.Need-read-slot-requires
-read-slot-requires c κs = omega (arith, in-pool c.before)
+read-slot-requires c κs = omega (arith, in_pool c.before)
 
 pointer-of-requires : tie.Need-pointer-of-requires
 pointer-of-requires c κs = search rules
@@ -90,7 +90,7 @@ receiver-requires : tie.Need-receiver-requires
 receiver-requires c κs = search rules
 
 place-of-requires : tie.Need-place-of-requires
-place-of-requires c κs = (known c).few-pointers
+place-of-requires c κs = (known c).few_pointers
 
 held-refusal-requires : tie.Need-held-refusal-requires
 held-refusal-requires c κs = search rules
@@ -102,19 +102,19 @@ mul-word : tie.Need-overflow-mul-word
 mul-word c = search rules
 
 slice-read-word : tie.Need-slice-read-word
-slice-read-word c = (known c.before.before.before.before).in-receive
+slice-read-word c = (known c.before.before.before.before).in_receive
 
 shared-slice-read-decide : tie.Need-shared-slice-read-decide
 shared-slice-read-decide c = (known c.before.before.before.before.before).a_pointer
 
 bit-of-requires : tie.Need-bit-of-requires
-bit-of-requires c κs = let k = known c.before.before.before.before.before in omega (arith, k.a-site, k.few-sites)
+bit-of-requires c κs = let k = known c.before.before.before.before.before in omega (arith, k.a_site, k.few_sites)
 
 mul-decide : tie.Need-overflow-mul-decide
-mul-decide c = let o = c.before.before.before.before.before in omega (arith, in-send o, (start (tested o.before).before).well-formed)
+mul-decide c = let o = c.before.before.before.before.before in omega (arith, in_send o, (start (tested o.before).before).well_formed)
 
 slice-read-decide : tie.Need-slice-read-decide
-slice-read-decide c = in-send c.before.before.before.before.before.before
+slice-read-decide c = in_send c.before.before.before.before.before.before
 
 decide-requires : tie.Need-decide-requires
 decide-requires c κs = search rules
@@ -136,13 +136,13 @@ returns-2 c =
     let k = c.before.before.before in
     let t = tested (place_of k).before in
     let b = start t.before in
-    refused-by-own (desk b) _ k.decide.result.number _ _ (passed t) c.before.if2.true (own k) c.refused2.ensures ∙ receive-as words (desk b) b.args.slot
+    refused_by_own (desk b) _ k.decide.result.number _ _ (passed t) c.before.if2.true (own k) c.refused2.ensures ∙ receive_as words (desk b) b.args.slot
 
 mul-send : tie.Need-overflow-mul-send
-mul-send c = let o = place_of c.before.before in omega (arith, in-send o, (start (tested o.before).before).well-formed)
+mul-send c = let o = place_of c.before.before in omega (arith, in_send o, (start (tested o.before).before).well_formed)
 
 slice-write-send : tie.Need-slice-write-send
-slice-write-send c = in-send (place_of c.before.before)
+slice-write-send c = in_send (place_of c.before.before)
 
 with-bit-requires : tie.Need-with-bit-requires
 with-bit-requires c κs =
@@ -150,8 +150,8 @@ with-bit-requires c κs =
     let o = place_of k in
     let r = o.before in
     let a = (start (tested r).before).args in (
-      omega (arith, (known r).a-site, (known r).few-sites),
-      decided-bit _ _ r.before.before.read-slot.result (get_or a.owners.now r.before.pointer-of.result 0) _ (get_or a.send.now o.place_of.result 0)
+      omega (arith, (known r).a_site, (known r).few_sites),
+      decided_bit _ _ r.before.before.read-slot.result (get_or a.owners.now r.before.pointer-of.result 0) _ (get_or a.send.now o.place_of.result 0)
           k.before.before.before.before.before.held-refusal.result k.before.before.bit-of.ensures k.decide.ensures c.if2.false,
     )
 
@@ -159,10 +159,10 @@ mul-receive : tie.Need-overflow-mul-receive
 mul-receive c = search rules
 
 slice-write-receive : tie.Need-slice-write-receive
-slice-write-receive c = (known (place_of c.before.before.before).before).in-receive
+slice-write-receive c = (known (place_of c.before.before.before).before).in_receive
 
 write-slot-requires : tie.Need-write-slot-requires
-write-slot-requires c κs = omega (arith, in-pool (tested (place_of c.before.before.before.before).before))
+write-slot-requires c κs = omega (arith, in_pool (tested (place_of c.before.before.before.before).before))
 
 accepted-requires : tie.Need-accepted-requires
 accepted-requires c κs = search rules
@@ -185,14 +185,14 @@ returns-3 c =
     let r = o.before in
     let t = tested r in
     let b = start t.before in
-    received-by wordCells heldSlots (desk b) b.args.slot r.before.before.read-slot.ensures r.receiver.ensures r.before.pointer-of.ensures o.place_of.ensures
+    received_by word_cells held_slots (desk b) b.args.slot r.before.before.read-slot.ensures r.receiver.ensures r.before.pointer-of.ensures o.place_of.ensures
     k.before.before.before.before.before.held-refusal.result k.before.before.bit-of.ensures k.decide.ensures e.if2.false c.accepted.ensures
     (ap (λ (word : ℕ). set b.args.receive.now r.before.pointer-of.result word) w.before.before.with-bit.ensures) w.write-slot.ensures
-    ∙ accepted-by-both (desk b) _ _ _ (passed t) (sym (own k) ∙ e.if2.false)
-    ∙ receive-as words (desk b) b.args.slot
+    ∙ accepted_by_both (desk b) _ _ _ (passed t) (sym (own k) ∙ e.if2.false)
+    ∙ receive_as words (desk b) b.args.slot
 
-pub receive-spec : {M : Type 1} → statement M
-receive-spec =
+pub receive_spec : {M : Type 1} → statement M
+receive_spec =
     tie.close
     (tie.spec
     slot-refusal-requires

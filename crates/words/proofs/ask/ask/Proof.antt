@@ -9,14 +9,14 @@ use borrow.Author.Rules.{rules}
 use borrow.Author.Tests.{ltb-true, eq-eqb, ne_eqb, eqb-false}
 use Rattle.model.specs.declared.Posted.TheVariants.{Nothing}
 use Rattle.model.specs.Answers.{accepted}
-use Rattle.model.specs.Calls.{front, askNumber, ask}
+use Rattle.model.specs.Calls.{front, ask_number, ask}
 use Rattle.model.specs.Tables.{place}
-use Rattle.model.specs.Flat.{heldSlots}
-use Rattle.model.proofs.TestLaws.{refused-by-front, refused-by-own, accepted-by-both}
+use Rattle.model.specs.Flat.{held_slots}
+use Rattle.model.proofs.TestLaws.{refused_by_front, refused_by_own, accepted_by_both}
 use Rattle.model.proofs.EffectLaws.{asked_by}
-use Rattle.tables.proofs.RowLaws.{test-as-byte}
-use Rattle.word_cells.specs.WordCells.{wordCells, WordDesk, lentInWords, words}
-use Rattle.words.proofs.KnownLaws.{Ready, ready-names}
+use Rattle.tables.proofs.RowLaws.{test_as_byte}
+use Rattle.word_cells.specs.WordCells.{word_cells, WordDesk, lent_in_words, words}
+use Rattle.words.proofs.KnownLaws.{Ready, ready_names}
 use Rattle.words.proofs.ask.ask.Statement.{statement}
 use Rattle.words.proofs.ask.ask.Tie as tie
 
@@ -24,7 +24,7 @@ abbrev start : tie.After-front → tie.Start
 start c = c.before.before.before.before.before
 
 abbrev desk : tie.Start → WordDesk
-desk c = lentInWords c.args.s c.args.owners.now c.args.send.now c.args.receive.now c.args.pool.now
+desk c = lent_in_words c.args.s c.args.owners.now c.args.send.now c.args.receive.now c.args.pool.now
 
 front-requires : tie.Need-front-requires
 front-requires c κs = search rules
@@ -33,23 +33,23 @@ refused-requires : tie.Need-refused-requires
 refused-requires c κs = search rules
 
 returns : tie.Need-returns
-unfolding ask askNumber
-returns c = refused-by-front (desk (start c.before.before)) _ _ _ _ c.before.if1.true c.before.before.front.ensures c.refused.ensures
+unfolding ask ask_number
+returns c = refused_by_front (desk (start c.before.before)) _ _ _ _ c.before.if1.true c.before.before.front.ensures c.refused.ensures
 
 -- 1, 2, 3 are not given
 passed : (c : tie.Else1) → let a = (start c.before).args in front words (desk (start c.before)) (ltb a.site a.s && ltb a.pointer (length a.owners.now)) ≡ 0
 passed c = sym c.before.front.ensures ∙ c.if1.false
 
 known : (c : tie.Else1) → let a = (start c.before).args in Ready (desk (start c.before)) a.site a.pointer
-known c = ready-names (desk (start c.before)) _ _ _ (ltb-true _ _) refl (passed c)
+known c = ready_names (desk (start c.before)) _ _ _ (ltb-true _ _) refl (passed c)
 
 -- the place that is read is the owner's
-at-owner : (c : tie.After-place-of) → let a = (start c.before.before.before.before).args in
+at_owner : (c : tie.After-place-of) → let a = (start c.before.before.before.before).args in
     c.place_of.result ≡ place (length a.owners.now) (get_or a.owners.now a.pointer 0) a.pointer
-at-owner c = c.place_of.ensures
+at_owner c = c.place_of.ensures
 
-in-send : (c : tie.After-place-of) → c.place_of.result < length (start c.before.before.before.before).args.send.now
-in-send c = rw (at-owner c, ← c.before.if2.false) (known c.before.before.before).in-send
+in_send : (c : tie.After-place-of) → c.place_of.result < length (start c.before.before.before.before).args.send.now
+in_send c = rw (at_owner c, ← c.before.if2.false) (known c.before.before.before).in_send
 
 shared-slice-read-owner : tie.Need-shared-slice-read-owner
 shared-slice-read-owner c = (known c.before).a_pointer
@@ -58,19 +58,19 @@ refused-requires-2 : tie.Need-refused-requires-2
 refused-requires-2 c κs = search rules
 
 returns-2 : tie.Need-returns-2
-unfolding ask askNumber
+unfolding ask ask_number
 returns-2 c =
     let e = c.before.before.before in
-    refused-by-own (desk (start e.before)) _ 13 _ _ (passed e) (eqb-false 13 0 refl) (rw (ne_eqb _ _ c.before.if2.true)) c.refused2.ensures
+    refused_by_own (desk (start e.before)) _ 13 _ _ (passed e) (eqb-false 13 0 refl) (rw (ne_eqb _ _ c.before.if2.true)) c.refused2.ensures
 
 place-of-requires : tie.Need-place-of-requires
-place-of-requires c κs = (known c.before.before).few-pointers
+place-of-requires c κs = (known c.before.before).few_pointers
 
 mul-counter : tie.Need-overflow-mul-counter
-mul-counter c = omega (arith, in-send c, (start c.before.before.before.before).well-formed)
+mul-counter c = omega (arith, in_send c, (start c.before.before.before.before).well_formed)
 
 shared-slice-read-counter : tie.Need-shared-slice-read-counter
-shared-slice-read-counter c = in-send c.before
+shared-slice-read-counter c = in_send c.before
 
 cast-accepted : tie.Need-overflow-cast-accepted
 cast-accepted c = search rules
@@ -79,15 +79,15 @@ accepted-requires : tie.Need-accepted-requires
 accepted-requires c κs = search rules
 
 returns-3 : tie.Need-returns-3
-unfolding ask askNumber
+unfolding ask ask_number
 returns-3 c =
     let o = c.before.before.before in
     let e = o.before.before in
-    asked_by wordCells heldSlots (desk (start e.before)) _ (at-owner c.before.before) (c.accepted.ensures ∙ ap (λ (v : ℕ). accepted v Nothing) (test-as-byte (eqb (get_or (start e.before).args.send.now c.before.before.place_of.result 0) 0)))
-    ∙ accepted-by-both (desk (start e.before)) _ _ _ (passed e) (rw (eq-eqb _ _ o.if2.false))
+    asked_by word_cells held_slots (desk (start e.before)) _ (at_owner c.before.before) (c.accepted.ensures ∙ ap (λ (v : ℕ). accepted v Nothing) (test_as_byte (eqb (get_or (start e.before).args.send.now c.before.before.place_of.result 0) 0)))
+    ∙ accepted_by_both (desk (start e.before)) _ _ _ (passed e) (rw (eq-eqb _ _ o.if2.false))
 
-pub ask-spec : {M : Type 1} → statement M
-ask-spec =
+pub ask_spec : {M : Type 1} → statement M
+ask_spec =
     tie.close
     (tie.spec
     front-requires

@@ -3,11 +3,11 @@ use mathlib.Core.Path.{◌≡◌, sym, ◌∙◌}
 use native.Mathlib.Omega.{arith}
 use borrow.Author.Rules.{rules}
 use borrow.Author.Tests.{ne_eqb}
-use Rattle.model.specs.Survey.{sheetNumber, sheet}
-use Rattle.slots.proofs.NumberLaws.{sheet-good}
-use Rattle.slots.proofs.SheetLaws.{column-is-site}
-use Rattle.word_cells.specs.WordCells.{WordDesk, lentInWords, words}
-use Rattle.word_cells.proofs.WordLaws.{words-laws}
+use Rattle.model.specs.Survey.{sheet_number, sheet}
+use Rattle.slots.proofs.NumberLaws.{sheet_good}
+use Rattle.slots.proofs.SheetLaws.{column_is_site}
+use Rattle.word_cells.specs.WordCells.{WordDesk, lent_in_words, words}
+use Rattle.word_cells.proofs.WordLaws.{words_laws}
 use Rattle.words.proofs.sheet.sheet_by.Statement.{statement}
 use Rattle.words.proofs.sheet.sheet_by.Tie as tie
 
@@ -15,10 +15,10 @@ abbrev start : tie.Else1 → tie.Start
 start c = c.before.before.before.before.before
 
 abbrev desk : tie.Start → WordDesk
-desk c = lentInWords c.args.s c.args.owners.now c.args.send.now c.args.receive.now c.args.pool.now
+desk c = lent_in_words c.args.s c.args.owners.now c.args.send.now c.args.receive.now c.args.pool.now
 
 -- 1, 2, 3 are not given
-passed : (c : tie.Else1) → sheetNumber words (desk (start c)) (start c).args.pointer ≡ 0
+passed : (c : tie.Else1) → sheet_number words (desk (start c)) (start c).args.pointer ≡ 0
 passed c = sym (start c).requires ∙ c.if1.false
 
 blank-requires : tie.Need-blank-requires
@@ -31,13 +31,13 @@ returns c = rw (← c.before.before.before.before.before.before.requires, ne_eqb
 entries-requires : tie.Need-entries-requires
 entries-requires c κs =
     let d = desk (start c) in
-    let good = sheet-good words d _ (passed c) in
-    let sites = (words-laws.some-site d good).1 in
-    (words-laws.few-slots d good, λ slot l. omega (arith, column-is-site words words-laws d good slot l, sites))
+    let good = sheet_good words d _ (passed c) in
+    let sites = (words_laws.some_site d good).1 in
+    (words_laws.few_slots d good, λ slot l. omega (arith, column_is_site words words_laws d good slot l, sites))
 
 returns-2 : tie.Need-returns-2
 unfolding sheet
 returns-2 c = rw (passed c.before) c.entries.ensures
 
-pub sheet-by-spec : {M : Type 1} → statement M
-sheet-by-spec = tie.close (tie.spec blank-requires returns entries-requires returns-2)
+pub sheet_by_spec : {M : Type 1} → statement M
+sheet_by_spec = tie.close (tie.spec blank-requires returns entries-requires returns-2)

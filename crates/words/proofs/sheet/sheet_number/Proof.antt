@@ -1,6 +1,6 @@
 -- 1, 2, 3 and nothing else.
 use borrow.Author.Rules.{rules}
-use Rattle.model.specs.Survey.{sheetNumber}
+use Rattle.model.specs.Survey.{sheet_number}
 use Rattle.words.proofs.sheet.sheet_number.Statement.{statement}
 use Rattle.words.proofs.sheet.sheet_number.Tie as tie
 
@@ -8,8 +8,8 @@ front-requires : tie.Need-front-requires
 front-requires c κs = search rules
 
 returns : tie.Need-returns
-unfolding sheetNumber
+unfolding sheet_number
 returns c = c.front.ensures
 
-pub sheet-number-spec : {M : Type 1} → statement M
-sheet-number-spec = tie.close (tie.spec front-requires returns)
+pub sheet_number_spec : {M : Type 1} → statement M
+sheet_number_spec = tie.close (tie.spec front-requires returns)
