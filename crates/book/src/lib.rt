@@ -1,4 +1,6 @@
 // The address book: an address as a part of the lent book, the check and the search (Document 01, The address book).
+#![tactic(auto)]
+
 mod bytes;
 mod find;
 mod walk;

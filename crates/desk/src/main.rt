@@ -1,4 +1,6 @@
 // The program `desk` (Document 01, Lines): all of standard input in, its transcript out.
+#![tactic(auto)]
+
 use libc::{STDERR_FILENO, STDIN_FILENO, STDOUT_FILENO};
 
 // Where nothing came: whether the input can be read at all is asked by a read of no bytes, and told if not.

@@ -1,4 +1,6 @@
 // A call as a line, a line as a call, and the reader of a text (Document 01, Lines).
+#![tactic(auto)]
+
 pub mod digit;
 pub mod line;
 pub mod reader;

@@ -46,7 +46,7 @@ reached_before : {d : Desk} (lines : List (List ℕ)) (k : ℕ) → Reached flat
 unfolding desk_before
 reached_before lines zero r = r
 reached_before [] (suc k) r = r
-reached_before (line ∷ lines) (suc k) r = reached_before lines k (still_reached (read_line line) r)
+reached_before {d = d} (line ∷ lines) (suc k) r = reached_before {d = (obeyed d (read_line line)).desk} lines k (still_reached (read_line line) r)
 
 -- ---- each answer line has 17 characters, so line k is answered from k x 17 on
 answer_long : (a : Answer) → length (answer_line a) ≡ 17

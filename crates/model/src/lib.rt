@@ -1,4 +1,5 @@
 // The types of document 01. This crate has no functions: specs/ states document 01, proofs/ what is true of it.
+#![tactic(auto)]
 
 // A posted message: one of the three kinds, or none (Document 01, The calls).
 #[derive(Drop)]

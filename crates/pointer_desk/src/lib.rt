@@ -1,4 +1,6 @@
 // The desk for C: every export is its call, and its answer in C's form (Document 01).
+#![tactic(auto)]
+
 mod addresses;
 mod answer;
 mod counts;

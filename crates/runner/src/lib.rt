@@ -1,4 +1,6 @@
 // A whole input in, a whole output out: all of the program `desk` but its reading and writing (Document 01, Lines).
+#![tactic(auto)]
+
 use crate::session::begin;
 use lines::write::put_answer;
 use rules::answer::refused;

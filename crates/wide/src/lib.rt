@@ -1,3 +1,5 @@
 // Whether every slot of seven bytes is good, eight bytes at a time (Document 02, Three).
+#![tactic(auto)]
+
 pub mod counted;
 pub mod word;
