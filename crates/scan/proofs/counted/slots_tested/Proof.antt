@@ -12,67 +12,58 @@ use Rattle.scan.proofs.CountedLaws.{empties_counted}
 use Rattle.scan.proofs.counted.slots_tested.Statement.{statement}
 use Rattle.scan.proofs.counted.slots_tested.Tie as tie
 
-roomy : (c : tie.After-rooms-of) → Roomy c.rooms-of.result
-roomy c = let a = c.before.before.before.args in rw c.rooms-of.ensures (rooms_roomy a.s a.g)
+roomy : (c : tie.After-rooms_of-room) → Roomy c.rooms_of-room.result
+roomy c = let a = c.before.before.before.args in rw c.rooms_of-room.ensures (rooms_roomy a.s a.g)
 
 -- what the test of the words says of the slots
-all_good : (c : tie.After-good-to-last) → let a = c.before.before.before.before.before.before.before.before.before.args in c.good-to-last.result ≡ all_slots_good 5 a.s a.g a.pool.now
+all_good : (c : tie.After-good_to_last) → let a = c.before.before.before.before.before.before.before.before.before.args in c.good_to_last.result ≡ all_slots_good 5 a.s a.g a.pool.now
 all_good c =
     let rooms = c.before.before.before.before.before.before in
     let known = rooms.before.before in
     let a = known.before.args in
-    c.good-to-last.ensures ∙ words_good a.pool.now known.shared-slice-known.given a.s a.g rooms.rooms-of.ensures (omega arith) (omega arith)
+    c.good_to_last.ensures ∙ words_good a.pool.now known.shared_slice_known-1.given a.s a.g rooms.rooms_of-room.ensures (omega arith) (omega arith)
 
-returns : tie.Need-returns
+returns-then-n-eq0 : tie.Need-returns-then-n-eq0
 unfolding all_slots_good every how_many
-returns c = let e : length c.before.before.args.pool.now / 5 ≡ 0 = omega arith in (rw e, rw e)
+returns-then-n-eq0 c = let e : length c.before.before.args.pool.now / 5 ≡ 0 = omega arith in (rw e, rw e)
 
-rooms-of-requires : tie.Need-rooms-of-requires
-rooms-of-requires c κs = search rules
+rooms_of-room-requires : tie.Need-rooms_of-room-requires
+rooms_of-room-requires c κs = search rules
 
-sub-groups : tie.Need-overflow-sub-groups
-sub-groups c = search rules
+overflow_sub-groups : tie.Need-overflow_sub-groups
+overflow_sub-groups c = search rules
 
-groups-counted-requires : tie.Need-groups-counted-requires
-groups-counted-requires c κs = (roomy c.before.before, omega arith, refl)
+groups_counted-first-requires : tie.Need-groups_counted-first-requires
+groups_counted-first-requires c κs = (roomy c.before.before, omega arith, refl)
 
-good-to-last-requires : tie.Need-good-to-last-requires
-good-to-last-requires c κs = (roomy c.before.before.before.before.before, omega arith, omega arith, c.before.before.groups-counted.ensures.0)
+good_to_last-requires : tie.Need-good_to_last-requires
+good_to_last-requires c κs = (roomy c.before.before.before.before.before, omega arith, omega arith, c.before.before.groups_counted-first.ensures.0)
 
-mul-with-rest : tie.Need-overflow-mul-with-rest
-mul-with-rest c = search rules
+overflow_mul-groups : tie.Need-overflow_mul-groups
+overflow_mul-groups c = search rules
 
-with-rest-requires : tie.Need-with-rest-requires
-with-rest-requires c κs =
+with_rest-empties-requires : tie.Need-with_rest-empties-requires
+with_rest-empties-requires c κs =
     let groups = c.before.before.before.before in
     let rooms = groups.before.before.before in
     let known = rooms.before.before in
     let pool = known.before.args.pool.now in (
       omega arith,
-      groups.groups-counted.ensures.1
-          ∙ empties_counted pool known.shared-slice-known.given rooms.rooms-of.result _ (slots_of 5 pool) (omega arith) (sym c.before.good-to-last.ensures ∙ c.if2.true),
+      groups.groups_counted-first.ensures.1
+          ∙ empties_counted pool known.shared_slice_known-1.given rooms.rooms_of-room.result _ (slots_of 5 pool) (omega arith) (sym c.before.good_to_last.ensures ∙ c.if-good_to_last.true),
     )
 
-returns-2 : tie.Need-returns-2
-returns-2 c =
-    let good = sym (all_good c.before.before) ∙ c.before.if2.true in
-    (sym good, rw good c.with_rest.ensures)
+returns-then-good_to_last : tie.Need-returns-then-good_to_last
+returns-then-good_to_last c =
+    let good = sym (all_good c.before.before) ∙ c.before.if-good_to_last.true in
+    (sym good, rw good c.with_rest-empties.ensures)
 
-returns-3 : tie.Need-returns-3
-returns-3 c =
-    let bad = sym (all_good c.before) ∙ c.if2.false in
+returns : tie.Need-returns
+returns c =
+    let bad = sym (all_good c.before) ∙ c.if-good_to_last.false in
     (sym bad, rw bad)
 
 pub slots_tested_spec : {M : Type 1} → statement M
 slots_tested_spec =
     tie.close
-    (tie.spec
-    returns
-    rooms-of-requires
-    sub-groups
-    groups-counted-requires
-    good-to-last-requires
-    mul-with-rest
-    with-rest-requires
-    returns-2
-    returns-3)
+    (tie.spec returns-then-n-eq0 rooms_of-room-requires overflow_sub-groups groups_counted-first-requires good_to_last-requires overflow_mul-groups with_rest-empties-requires returns-then-good_to_last returns)

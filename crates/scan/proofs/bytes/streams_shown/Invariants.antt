@@ -1,0 +1,16 @@
+-- What is seen so far is clear where the words so far of each stream hold zeros and ones.
+use Prim.Native.Nat.{◌≤◌, ◌-◌}
+use mathlib.Core.Path.{◌≡◌, refl, ◌∙◌}
+use native.Mathlib.Omega.{arith}
+use Rattle.model.specs.Questions.{every}
+use Rattle.model.specs.Tables.{byte_below}
+use Rattle.model.proofs.QuestionLaws.{every_done}
+use Rattle.scan.specs.Word.{clear, bit_mask}
+use Rattle.scan.proofs.EightLaws.{in_streams, streams_done, streams_more}
+use Rattle.scan.proofs.bytes.streams_shown.Given as goal
+
+abbrev pub invariant-loop-i : goal.invariant-loop-i
+invariant-loop-i l = (l.i ≤ l.q) × (clear bit_mask l.seen ≡ every l.i (in_streams (byte_below 2 l.bytes) l.q))
+
+abbrev pub decreases-loop-i : goal.decreases-loop-i
+decreases-loop-i l = l.q - l.i
