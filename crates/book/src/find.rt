@@ -8,7 +8,7 @@ use crate::bytes::same_bytes;
 use crate::walk::{SHORTEST, entry_end};
 
 // A pointer, and where its entry starts.
-#[derive(Drop)]
+#[derive(Clone, Copy)]
 pub struct Found {
     pub pointer: usize,
     pub at: usize,

@@ -10,7 +10,7 @@ use crate::lent::tables_refusal;
 use scan::counted::slots_tested;
 
 // A refusal number, and where it is 0 how many slots are empty.
-#[derive(Drop)]
+#[derive(Clone, Copy)]
 pub struct Front {
     pub number: u8,
     pub empties: usize,

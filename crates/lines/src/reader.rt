@@ -57,7 +57,7 @@ pub(crate) fn past_at(text: &[u8], at: usize) -> usize
 }
 
 // A reader stands over the lent text and knows how far it has come.
-#[derive(Drop)]
+#[derive(Clone, Copy)]
 pub struct Reader<'a> {
     pub text: &'a [u8],
     pub at: usize,

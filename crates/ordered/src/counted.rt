@@ -11,7 +11,7 @@ use scan::bytes::{all_below, all_bits};
 use wide::counted::slots_tested;
 
 // A refusal number, and where it is 0 how many slots are empty.
-#[derive(Drop)]
+#[derive(Clone, Copy)]
 pub struct Front {
     pub number: u8,
     pub empties: usize,

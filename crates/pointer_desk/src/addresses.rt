@@ -8,7 +8,7 @@ use book::{address, address_number, check, entry_place, search};
 
 // A number, and a part of the lent book: where it starts, and its length.
 #[repr(C)]
-#[derive(Drop)]
+#[derive(Clone, Copy)]
 pub struct DeskPart {
     pub number: u8,
     pub at: usize,

@@ -7,7 +7,7 @@ use rules::message::slot_bytes;
 
 // Number, value, how many slots were empty before a post (0: not told), and the message as slot bytes.
 #[repr(C)]
-#[derive(Drop)]
+#[derive(Clone, Copy)]
 pub struct DeskAnswer {
     pub number: u8,
     pub value: u16,
@@ -31,7 +31,7 @@ pub fn flat_answer(a: Answer) -> DeskAnswer
 
 // The in-order desk's answer: the same fields; its message has no number, which stands in its slot (Document 02, Three).
 #[repr(C)]
-#[derive(Drop)]
+#[derive(Clone, Copy)]
 pub struct DeskOrderedAnswer {
     pub number: u8,
     pub value: u16,

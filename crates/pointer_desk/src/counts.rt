@@ -10,7 +10,7 @@ use bytes::sheet::{sheet_by, sheet_number};
 
 // A number, and a signed whole number.
 #[repr(C)]
-#[derive(Drop)]
+#[derive(Clone, Copy)]
 pub struct DeskShare {
     pub number: u8,
     pub share: i32,

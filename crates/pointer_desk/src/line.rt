@@ -11,7 +11,7 @@ use rules::answer::refused;
 
 // What a reader answers: a number, whether it has ended, the call's four bytes, and where it stands then.
 #[repr(C)]
-#[derive(Drop)]
+#[derive(Clone, Copy)]
 pub struct DeskLine {
     pub number: u8,
     pub ended: u8,

@@ -9,7 +9,7 @@ use lines::digit::byte_at;
 use tables::shape::shape_good;
 
 // What an opening line asks for, or the number of its refusal.
-#[derive(Drop)]
+#[derive(Clone, Copy)]
 pub enum Opening {
     Asks { s: u8, slots: usize },
     Refused(u8),

@@ -9,7 +9,7 @@ ghost use Rattle.scan.specs.Word.{packed, clear, slot_mask, Roomy, word_good, on
 use crate::word::{Seen, good_to_last, rooms_of, with_slot, word_within};
 
 // What the slots so far show, and how many of them are empty where all are good.
-#[derive(Drop)]
+#[derive(Clone, Copy)]
 struct Tally {
     numbers: u64,
     sums: u64,
@@ -85,7 +85,7 @@ fn with_rest(first: usize, pool: &[u8], from: usize) -> usize
 }
 
 // Whether every slot is good, and then how many are empty.
-#[derive(Drop)]
+#[derive(Clone, Copy)]
 pub struct Tested {
     pub good: bool,
     pub empties: usize,

@@ -115,7 +115,7 @@ fn shown_at(room: &[u64; 4], pool: &[u8], slot: usize) -> u64
 }
 
 // What the slots so far show: their numbers, and their numbers with the room of their kinds, kept apart, which takes fewer steps.
-#[derive(Drop)]
+#[derive(Clone, Copy)]
 pub struct Seen {
     pub numbers: u64,
     pub sums: u64,

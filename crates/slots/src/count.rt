@@ -7,7 +7,7 @@ use crate::slot::read_slot;
 use crate::weight::{minus, plus};
 
 // What the pool adds to a share and takes from it.
-#[derive(Drop)]
+#[derive(Clone, Copy)]
 pub struct Counts {
     pub plus: u32,
     pub minus: u32,

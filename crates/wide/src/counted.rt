@@ -13,7 +13,7 @@ use scan::counted::Tested;
 use scan::word::Seen;
 
 // What the slots so far show, and how many of them are empty where all are good.
-#[derive(Drop)]
+#[derive(Clone, Copy)]
 struct Tally {
     numbers: u64,
     sums: u64,

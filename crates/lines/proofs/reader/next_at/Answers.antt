@@ -1,0 +1,13 @@
+-- `next_at` meets its promise: no character is left, or a line starts there.
+use mathlib.Core.Path.{sym}
+use native.Mathlib.Omega.{arith}
+use borrow.Author.Rules.{rules}
+use Rattle.model.proofs.LineLaws.{end_most, line_there, none_there}
+use Rattle.lines.proofs.reader.next_at.Goals as goal
+
+pub returns-then-text-at : goal.returns-then-text-at
+returns-then-text-at c = sym (none_there _ _ c.if-text-at.true)
+
+pub returns : goal.returns
+returns c =
+    line_there _ _ _ _ _ c.before.before.before.before.if-text-at.false c.before.before.before.line_end-end.ensures c.before.read_line.ensures c.past_newline.ensures

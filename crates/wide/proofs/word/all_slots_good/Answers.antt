@@ -1,0 +1,23 @@
+-- Groups of four slots, then the rest.
+use Prim.Native.Nat.{◌/◌}
+use mathlib.Core.Path.{◌≡◌, ◌∙◌}
+use native.Mathlib.Omega.{arith}
+use lib.ListN.{length}
+use borrow.Author.Rules.{rules}
+use Rattle.model.specs.Questions.{every}
+use Rattle.model.specs.Tables.{all_slots_good}
+use Rattle.in_order.specs.Ordered.{all_numbers_good}
+use Rattle.wide.specs.Wide.{WideRoomy}
+use Rattle.wide.proofs.WideLaws.{rooms_wide, sevens_good}
+use Rattle.wide.proofs.word.all_slots_good.Goals as goal
+
+pub returns-then-n-eq0 : goal.returns-then-n-eq0
+unfolding all_slots_good all_numbers_good every
+returns-then-n-eq0 c = let e : length c.before.before.args.pool.now / 7 ≡ 0 = omega arith in rw e
+
+pub returns : goal.returns
+returns c =
+    let rooms = c.before.before.before.before.before.before in
+    let known = rooms.before.before.before in
+    let a = known.before.args in
+    c.good_to_last.ensures ∙ sevens_good a.pool.now known.shared_slice_known-1.given a.s a.g rooms.wide_rooms-room.ensures (omega arith) (omega arith)
