@@ -2,6 +2,5 @@
 pub mod DigitTable
 pub mod StoreLaws
 pub mod ReaderLaws
-pub mod ReaderWalk
 -- What is true of what they answer.
 pub mod NoTwoOutcomes

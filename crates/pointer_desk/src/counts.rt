@@ -5,8 +5,8 @@ ghost use Rattle.model.specs.Survey.{share as share_of};
 ghost use Rattle.model.specs.Flat.{flat};
 ghost use Rattle.pointer_desk.specs.Boundary.{flat_share, row_by_row, sheet_given};
 
-use bytes::share::share;
-use bytes::sheet::{sheet_by, sheet_number};
+use byte_desk::share::share;
+use byte_desk::sheet::{sheet_by, sheet_number};
 
 // A number, and a signed whole number.
 #[repr(C)]

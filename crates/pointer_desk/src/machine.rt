@@ -6,11 +6,11 @@ ghost use Rattle.model.specs.Flat.{flat};
 ghost use Rattle.pointer_desk.specs.Boundary.{given};
 
 use crate::answer::{DeskAnswer, flat_answer};
-use bytes::ask::ask;
-use bytes::copy::make_copy;
-use bytes::delete::delete;
-use bytes::opening::open_desk;
-use bytes::receive::receive as receive_slot;
+use byte_desk::ask::ask;
+use byte_desk::copy::make_copy;
+use byte_desk::delete::delete;
+use byte_desk::opening::open_desk;
+use byte_desk::receive::receive as receive_slot;
 
 // An opening.
 #[unsafe(no_mangle)]

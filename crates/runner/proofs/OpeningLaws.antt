@@ -18,7 +18,7 @@ use Rattle.model.specs.Transcript.{opening_form, sites_in, slots_in, owners_in, 
 use Rattle.model.proofs.TestLaws.{and_both}
 use Rattle.model.proofs.QuestionLaws.{every_at, length_up_to}
 use Rattle.model.proofs.ShapeLaws.{shaped}
-use Rattle.bytes.proofs.OpeningLaws.{shape_refused}
+use Rattle.byte_desk.proofs.OpeningLaws.{shape_refused}
 use Rattle.runner.specs.declared.opening.Opening.TheVariants.{Asks, Refused}
 use Rattle.runner.specs.Opened.{pointers_in, asked, read_opening, Opens}
 

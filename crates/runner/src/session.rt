@@ -9,11 +9,11 @@ ghost use Rattle.runner.specs.Run.{written, written_at, room};
 ghost use Rattle.runner.specs.Opened.{pointers_in, Opens};
 
 use crate::opening::{Opening, fill_owners, number_in, read_opening};
-use bytes::ask::ask;
-use bytes::copy::make_copy;
-use bytes::delete::delete;
-use bytes::opening::open_desk;
-use bytes::receive::receive as receive_call;
+use byte_desk::ask::ask;
+use byte_desk::copy::make_copy;
+use byte_desk::delete::delete;
+use byte_desk::opening::open_desk;
+use byte_desk::receive::receive as receive_call;
 use lines::reader::{line_end, next_from, past_first};
 use lines::write::put_answer;
 use model::{Answer, Call, Next, Read};

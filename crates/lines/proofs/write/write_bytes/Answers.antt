@@ -10,10 +10,10 @@ use Rattle.lines.proofs.write.write_bytes.Goals as goal
 
 pub loop-i-preserved : goal.loop-i-preserved
 loop-i-preserved c =
-    let inv = c.before.before.before.before.before.before.loop-i.invariant in
-    let w = c.before.before.write_byte in
-    let i = c.before.before.before.before.before.loop-i-test.true in
-    (omega arith, w.auto.0 ∙ inv.1, digits_more _ _ _ _ _ i w.ensures ∙ inv.2)
+    let inv = c.loop-i.invariant in
+    let w = c.write_byte in
+    let i = c.loop-i-test.true in
+    (omega arith, w.auto.text ∙ inv.1, digits_more _ _ _ _ _ i w.ensures ∙ inv.2)
 
 pub returns : goal.returns
-returns c = sym (digits_done _ _ _ _ c.loop-i-test.false) ∙ c.before.loop-i.invariant.2
+returns c = sym (digits_done _ _ _ _ c.loop-i-test.false) ∙ c.loop-i.invariant.2

@@ -7,12 +7,12 @@ use Rattle.lines.proofs.write.write_call.Goals as goal
 
 pub returns-then-text-lt9 : goal.returns-then-text-lt9
 returns-then-text-lt9 c =
-    let a = c.before.before.before.args in
-    too_short a.text-1.now a.call (omega arith) c.refused.ensures
+    let a = c.args in
+    too_short a.text.now a.call (omega arith) c.refused.ensures
 
 pub returns : goal.returns
 unfolding line_of
 returns c =
-    let a = c.before.before.before.before.before.before.before.before.before.args in
-    long_enough_lem a.text-1.now a.call _ (omega arith) c.accepted.ensures
-    (rw c.before.before.before.before.before.before.bytes_of-bytes.ensures at c.before.before.before.write_line.ensures)
+    let a = c.args in
+    long_enough_lem a.text.now a.call _ (omega arith) c.accepted.ensures
+    (rw c.bytes_of-bytes.ensures at c.write_line.ensures)

@@ -1,0 +1,44 @@
+-- A refused question gives zeros; an accepted one is one pass over the pool.
+use mathlib.Core.Path.{◌≡◌, sym, ◌∙◌}
+use native.Mathlib.Omega.{arith}
+use borrow.Author.Rules.{rules}
+use borrow.Author.Tests.{ne_eqb}
+use Rattle.model.specs.Survey.{sheet_number, sheet}
+use Rattle.model.specs.Tables.{Desk, lent}
+use Rattle.model.specs.Flat.{flat}
+use Rattle.model.proofs.FlatLaws.{flat_laws}
+use Rattle.slots.proofs.NumberLaws.{sheet_good}
+use Rattle.slots.proofs.SheetLaws.{column_is_site}
+use Rattle.byte_desk.proofs.sheet.sheet_by.Statement.{statement}
+use Rattle.byte_desk.proofs.sheet.sheet_by.Tie as tie
+
+abbrev start : tie.Else1 → tie.Start
+start c = c.before.before.before.before.before
+
+abbrev desk : tie.Start → Desk
+desk c = lent c.args.s c.args.owners.now c.args.send.now c.args.receive.now c.args.pool.now
+
+-- 1, 2, 3 are not given
+passed : (c : tie.Else1) → sheet_number flat (desk (start c)) (start c).args.pointer ≡ 0
+passed c = sym (start c).requires ∙ c.if1.false
+
+blank-requires : tie.Need-blank-requires
+blank-requires c κs = search rules
+
+returns : tie.Need-returns
+unfolding sheet
+returns c = rw (← c.before.before.before.before.before.before.requires, ne_eqb _ _ c.before.if1.true) c.blank.ensures
+
+entries-requires : tie.Need-entries-requires
+entries-requires c κs =
+    let d = desk (start c) in
+    let good = sheet_good flat d _ (passed c) in
+    let sites = (flat_laws.some_site d good).1 in
+    (flat_laws.few_slots d good, λ slot l. omega (arith, column_is_site flat flat_laws d good slot l, sites))
+
+returns-2 : tie.Need-returns-2
+unfolding sheet
+returns-2 c = rw (passed c.before) c.entries.ensures
+
+pub sheet_by_spec : {M : Type 1} → statement M
+sheet_by_spec = tie.close (tie.spec blank-requires returns entries-requires returns-2)
