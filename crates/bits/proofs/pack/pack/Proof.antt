@@ -10,41 +10,41 @@ use Rattle.bits.proofs.FitLaws.{fit_sizes, fit_refused, table_refused, written_a
 use Rattle.bits.proofs.pack.pack.Statement.{statement}
 use Rattle.bits.proofs.pack.pack.Tie as tie
 
-fits : (c : tie.Else1) → let a = c.before.before.before.before.args in tables_fit a.sites a.cells.now a.words.now ≡ true
-fits c = sym c.before.tables-fit.ensures ∙ not-false _ c.if1.false
+fits : (c : tie.Else-not-tables_fit) → let a = c.before.before.before.before.args in tables_fit a.sites a.cells.now a.words.now ≡ true
+fits c = sym c.before.tables_fit.ensures ∙ c.if-not-tables_fit.false
 
-bits : (c : tie.Else2) → all_below 2 c.before.before.before.before.before.before.args.cells.now ≡ true
-bits c = sym c.before.all-bits.ensures ∙ not-false _ c.if2.false
+bits : (c : tie.Else-not-all_bits) → all_below 2 c.before.before.before.before.before.before.args.cells.now ≡ true
+bits c = sym c.before.all_bits.ensures ∙ c.if-not-all_bits.false
 
-tables-fit-requires : tie.Need-tables-fit-requires
-tables-fit-requires c κs = search rules
+tables_fit-requires : tie.Need-tables_fit-requires
+tables_fit-requires c κs = search rules
 
 refused-requires : tie.Need-refused-requires
 refused-requires c κs = search rules
 
-returns : tie.Need-returns
+returns-then-not-tables_fit : tie.Need-returns-then-not-tables_fit
 unfolding pack pack_number
-returns c =
+returns-then-not-tables_fit c =
     let a = c.before.before.before.before.before.args in
     fit_refused (tables_fit a.sites a.cells.now a.words.now) (all_below 2 a.cells.now) a.words.now (packed a.sites (length a.words.now) a.cells.now)
-    (sym c.before.before.tables-fit.ensures ∙ not-true _ c.before.if1.true) c.refused.ensures
+    (sym c.before.before.tables_fit.ensures ∙ c.before.if-not-tables_fit.true) c.refused.ensures
 
-all-bits-requires : tie.Need-all-bits-requires
-all-bits-requires c κs = search rules
+all_bits-requires : tie.Need-all_bits-requires
+all_bits-requires c κs = search rules
 
-refused-requires-2 : tie.Need-refused-requires-2
-refused-requires-2 c κs = search rules
+refused-requires-then-not-all_bits : tie.Need-refused-requires-then-not-all_bits
+refused-requires-then-not-all_bits c κs = search rules
 
-returns-2 : tie.Need-returns-2
+returns-then-not-all_bits : tie.Need-returns-then-not-all_bits
 unfolding pack pack_number
-returns-2 c =
+returns-then-not-all_bits c =
     let e = c.before.before.before in
     let a = e.before.before.before.before.args in
     table_refused (tables_fit a.sites a.cells.now a.words.now) (all_below 2 a.cells.now) a.words.now (packed a.sites (length a.words.now) a.cells.now)
-    (fits e) (sym c.before.before.all-bits.ensures ∙ not-true _ c.before.if2.true) c.refused2.ensures
+    (fits e) (sym c.before.before.all_bits.ensures ∙ c.before.if-not-all_bits.true) c.refused-then-not-all_bits.ensures
 
-write-words-requires : tie.Need-write-words-requires
-write-words-requires c κs =
+write_words-requires : tie.Need-write_words-requires
+write_words-requires c κs =
     let e = c.before.before.before in
     let a = e.before.before.before.before.args in
     let z = fit_sizes a.sites a.cells.now a.words.now (fits e) in
@@ -53,30 +53,20 @@ write-words-requires c κs =
 accepted-requires : tie.Need-accepted-requires
 accepted-requires c κs = search rules
 
-same_length : tie.Need-same-length
-same_length c = search rules
+shape_of-words : tie.Need-shape_of-words
+shape_of-words c = search rules
 
-returns-3 : tie.Need-returns-3
+returns : tie.Need-returns
 unfolding pack pack_number
-returns-3 c =
+returns c =
     let w = c.before.before.before in
     let b = w.before.before in
     let e = b.before.before in
     let a = e.before.before.before.before.args in
     written_as (tables_fit a.sites a.cells.now a.words.now) (all_below 2 a.cells.now) a.words.now (packed a.sites (length a.words.now) a.cells.now)
-    (fits e) (bits b) w.write-words.ensures c.accepted.ensures
+    (fits e) (bits b) w.write_words.ensures c.accepted.ensures
 
 pub pack_spec : {M : Type 1} → statement M
 pack_spec =
     tie.close
-    (tie.spec
-    tables-fit-requires
-    refused-requires
-    returns
-    all-bits-requires
-    refused-requires-2
-    returns-2
-    write-words-requires
-    accepted-requires
-    same_length
-    returns-3)
+    (tie.spec tables_fit-requires refused-requires returns-then-not-tables_fit all_bits-requires refused-requires-then-not-all_bits returns-then-not-all_bits write_words-requires accepted-requires shape_of-words returns)

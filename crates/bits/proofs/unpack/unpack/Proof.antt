@@ -10,43 +10,43 @@ use Rattle.bits.proofs.FitLaws.{fit_sizes, fit_refused, table_refused, written_a
 use Rattle.bits.proofs.unpack.unpack.Statement.{statement}
 use Rattle.bits.proofs.unpack.unpack.Tie as tie
 
-fits : (c : tie.Else1) → let a = c.before.before.before.before.args in tables_fit a.sites a.cells.now a.words.now ≡ true
-fits c = sym c.before.tables-fit.ensures ∙ not-false _ c.if1.false
+fits : (c : tie.Else-not-tables_fit) → let a = c.before.before.before.before.args in tables_fit a.sites a.cells.now a.words.now ≡ true
+fits c = sym c.before.tables_fit.ensures ∙ c.if-not-tables_fit.false
 
-within : (c : tie.Else2) → let a = c.before.before.before.before.before.before.args in all_below (2 ^ a.sites) a.words.now ≡ true
-within c = sym c.before.all-within.ensures ∙ not-false _ c.if2.false
+within : (c : tie.Else-not-all_within) → let a = c.before.before.before.before.before.before.args in all_below (2 ^ a.sites) a.words.now ≡ true
+within c = sym c.before.all_within.ensures ∙ c.if-not-all_within.false
 
-tables-fit-requires : tie.Need-tables-fit-requires
-tables-fit-requires c κs = search rules
+tables_fit-requires : tie.Need-tables_fit-requires
+tables_fit-requires c κs = search rules
 
 refused-requires : tie.Need-refused-requires
 refused-requires c κs = search rules
 
-returns : tie.Need-returns
+returns-then-not-tables_fit : tie.Need-returns-then-not-tables_fit
 unfolding unpack unpack_number
-returns c =
+returns-then-not-tables_fit c =
     let a = c.before.before.before.before.before.args in
     fit_refused (tables_fit a.sites a.cells.now a.words.now) (all_below (2 ^ a.sites) a.words.now) a.cells.now (unpacked a.sites a.words.now)
-    (sym c.before.before.tables-fit.ensures ∙ not-true _ c.before.if1.true) c.refused.ensures
+    (sym c.before.before.tables_fit.ensures ∙ c.before.if-not-tables_fit.true) c.refused.ensures
 
-all-within-requires : tie.Need-all-within-requires
-all-within-requires c κs =
+all_within-requires : tie.Need-all_within-requires
+all_within-requires c κs =
     let a = c.before.before.before.before.args in
     (fit_sizes a.sites a.cells.now a.words.now (fits c)).0.few_sites
 
-refused-requires-2 : tie.Need-refused-requires-2
-refused-requires-2 c κs = search rules
+refused-requires-then-not-all_within : tie.Need-refused-requires-then-not-all_within
+refused-requires-then-not-all_within c κs = search rules
 
-returns-2 : tie.Need-returns-2
+returns-then-not-all_within : tie.Need-returns-then-not-all_within
 unfolding unpack unpack_number
-returns-2 c =
+returns-then-not-all_within c =
     let e = c.before.before.before in
     let a = e.before.before.before.before.args in
     table_refused (tables_fit a.sites a.cells.now a.words.now) (all_below (2 ^ a.sites) a.words.now) a.cells.now (unpacked a.sites a.words.now)
-    (fits e) (sym c.before.before.all-within.ensures ∙ not-true _ c.before.if2.true) c.refused2.ensures
+    (fits e) (sym c.before.before.all_within.ensures ∙ c.before.if-not-all_within.true) c.refused-then-not-all_within.ensures
 
-write-cells-requires : tie.Need-write-cells-requires
-write-cells-requires c κs =
+write_cells-requires : tie.Need-write_cells-requires
+write_cells-requires c κs =
     let e = c.before.before.before in
     let a = e.before.before.before.before.args in
     let z = fit_sizes a.sites a.cells.now a.words.now (fits e) in
@@ -55,30 +55,20 @@ write-cells-requires c κs =
 accepted-requires : tie.Need-accepted-requires
 accepted-requires c κs = search rules
 
-same_length : tie.Need-same-length
-same_length c = search rules
+shape_of-cells : tie.Need-shape_of-cells
+shape_of-cells c = search rules
 
-returns-3 : tie.Need-returns-3
+returns : tie.Need-returns
 unfolding unpack unpack_number
-returns-3 c =
+returns c =
     let w = c.before.before.before in
     let b = w.before.before in
     let e = b.before.before in
     let a = e.before.before.before.before.args in
     written_as (tables_fit a.sites a.cells.now a.words.now) (all_below (2 ^ a.sites) a.words.now) a.cells.now (unpacked a.sites a.words.now)
-    (fits e) (within b) w.write-cells.ensures c.accepted.ensures
+    (fits e) (within b) w.write_cells.ensures c.accepted.ensures
 
 pub unpack_spec : {M : Type 1} → statement M
 unpack_spec =
     tie.close
-    (tie.spec
-    tables-fit-requires
-    refused-requires
-    returns
-    all-within-requires
-    refused-requires-2
-    returns-2
-    write-cells-requires
-    accepted-requires
-    same_length
-    returns-3)
+    (tie.spec tables_fit-requires refused-requires returns-then-not-tables_fit all_within-requires refused-requires-then-not-all_within returns-then-not-all_within write_cells-requires accepted-requires shape_of-cells returns)

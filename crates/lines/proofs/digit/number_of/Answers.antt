@@ -12,7 +12,7 @@ pub returns-in-65-to-70 : goal.returns-in-65-to-70
 returns-in-65-to-70 c = let n = letter_number c.args.c (omega arith) (omega arith) in omega arith
 
 pub returns-in_default : goal.returns-in_default
-returns-in_default c = sym (no_number_below _ c.if-c-lt48.true)
+returns-in_default c = sym (no_number_below c.args.c (omega arith))
 
 pub returns-in_default-2 : goal.returns-in_default-2
 returns-in_default-2 c = sym (no_number_between c.args.c (omega arith) (omega arith))

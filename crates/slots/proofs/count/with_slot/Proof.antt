@@ -20,7 +20,7 @@ less_counted : (c : tie.After-minus) → let a = (start c.before.before).args in
     a.counts.minus + c.minus.result ≡ minus_of (message_at 5 a.pool.now) (a.slot + 1) a.site a.owner a.p
 less_counted c =
     let s = start c.before.before in
-    counted_more _ s.args.slot s.pre.1.1 (rw c.before.before.before.read_slot-m.ensures at c.minus.ensures)
+    counted_more _ s.args.slot s.requires.1.1 (rw c.before.before.before.read_slot-m.ensures at c.minus.ensures)
 
 overflow_mul-slot : tie.Need-overflow_mul-slot
 overflow_mul-slot c = omega arith

@@ -63,7 +63,7 @@ overflow_add-rows c =
     let s = start row in
     let a = s.args in
     let entry : get_or (get_or a.rows.now row.row-k.result []) c.before.before.column-site.result 0 ≤ a.slot =
-    entry_at_most (message_at 5 a.pool.now) a.p a.slot _ _ s.pre.1 (row_below row) (column_below c.before.before) in
+    entry_at_most (message_at 5 a.pool.now) a.p a.slot _ _ s.requires.1 (row_below row) (column_below c.before.before) in
     let counted : c.before.amount.result ≤ 1 = rw c.before.amount.ensures (amount_at_most_1 a.p row.before.read_slot-m.result) in
     omega arith
 
@@ -73,7 +73,7 @@ returns c =
     let s = start row in
     let a = s.args in
     let message = row.before.read_slot-m.ensures in
-    rw s.pre.1
+    rw s.requires.1
     (entries_more (message_at 5 a.pool.now) a.p a.slot _ _ _ (rw message at row.row-k.ensures) (rw message at c.before.before.column-site.ensures) (rw message at c.before.amount.ensures)
     (column_below c.before.before))
 

@@ -1,0 +1,12 @@
+-- S = 64 has no bit above; otherwise what is seen is shifted down.
+use Prim.Native.Nat.{ℕ, ◌^◌}
+use mathlib.Core.Path.{sym, ap, ◌∙◌}
+use native.Mathlib.Omega.{arith}
+use borrow.Author.Rules.{rules}
+use borrow.Author.Tests.{lt-ltb}
+use Rattle.model.specs.Tables.{all_below}
+use Rattle.bits.proofs.BitLaws.{shifted_off}
+use Rattle.bits.proofs.within.all_within.Goals as goal
+
+pub returns : goal.returns
+returns c = shifted_off c.seen-shown.result c.args.s ∙ c.seen-shown.ensures c.args.s
