@@ -10,62 +10,54 @@ use Rattle.book.proofs.RefusalLaws.{book_passes, book_bad, book_good, address_pa
 use Rattle.book.proofs.entry_place.Statement.{statement}
 use Rattle.book.proofs.entry_place.Tie as tie
 
-owners-refusal-requires : tie.Need-owners-refusal-requires
-owners-refusal-requires c κs = search rules
+owners_refusal-requires : tie.Need-owners_refusal-requires
+owners_refusal-requires c κs = search rules
 
-returns : tie.Need-returns
-returns c = place_refused _ _ _ _ (λ z. c.if1.true (c.before.owners-refusal.ensures ∙ (book_passes _ _ _ (address_passes _ _ _ _ z).0).0))
+returns-then-owners_refusal-ne0 : tie.Need-returns-then-owners_refusal-ne0
+returns-then-owners_refusal-ne0 c = place_refused _ _ _ _ (λ z. c.if-owners_refusal-ne0.true (c.before.owners_refusal.ensures ∙ (book_passes _ _ _ (address_passes _ _ _ _ z).0).0))
 
-returns-2 : tie.Need-returns-2
-returns-2 c = place_refused _ _ _ _ (λ z. let l = (address_passes _ _ _ _ z).1 in absurd (omega arith))
+returns-then-g-p : tie.Need-returns-then-g-p
+returns-then-g-p c = place_refused _ _ _ _ (λ z. let l = (address_passes _ _ _ _ z).1 in absurd (omega arith))
+
+walk-at-requires : tie.Need-walk-at-requires
+walk-at-requires c κs = search rules
+
+overflow_sub-g : tie.Need-overflow_sub-g
+overflow_sub-g c = search rules
 
 walk-requires : tie.Need-walk-requires
 walk-requires c κs = search rules
 
-sub-walk : tie.Need-overflow-sub-walk
-sub-walk c = search rules
-
-walk-requires-2 : tie.Need-walk-requires-2
-walk-requires-2 c κs = search rules
-
-abbrev entry : tie.After-walk2 → tie.Start
+abbrev entry : tie.After-walk → tie.Start
 entry c = c.before.before.before.before.before.before.before
 
 -- 1 and 2 are passed, and the second walk ends where one over all entries does
-passed : (c : tie.After-walk2) → owners_refusal (entry c).args.s (entry c).args.owners.now ≡ 0
+passed : (c : tie.After-walk) → owners_refusal (entry c).args.s (entry c).args.owners.now ≡ 0
 passed c =
     let n = c.before.before.before in
-    sym n.before.owners-refusal.ensures ∙ n.if1.false
+    sym n.before.owners_refusal.ensures ∙ n.if-owners_refusal-ne0.false
 
-whole : (c : tie.After-walk2) → c.walk2.result ≡ walked 1 (entry c).args.book.now 0 (length (entry c).args.owners.now)
+whole : (c : tie.After-walk) → c.walk.result ≡ walked 1 (entry c).args.book.now 0 (length (entry c).args.owners.now)
 whole c =
     let a = (entry c).args in
-    walked_rest 1 a.book.now a.pointer (length a.owners.now) (omega arith) c.before.walk.ensures c.walk2.ensures
+    walked_rest 1 a.book.now a.pointer (length a.owners.now) (omega arith) c.before.walk-at.ensures c.walk.ensures
 
-returns-3 : tie.Need-returns-3
-returns-3 c =
+returns-then-walk-book : tie.Need-returns-then-walk-book
+returns-then-walk-book c =
     let w = c.before in
-    place_refused _ _ _ _ (λ z. let e = book_bad _ _ _ (passed w) (whole w) c.if3.true ∙ (address_passes _ _ _ _ z).0 in absurd (omega arith))
+    place_refused _ _ _ _ (λ z. let e = book_bad _ _ _ (passed w) (whole w) c.if-walk-book.true ∙ (address_passes _ _ _ _ z).0 in absurd (omega arith))
 
-returns-4 : tie.Need-returns-4
-returns-4 c =
+returns : tie.Need-returns
+returns c =
     let w = c.before in
     let a = (entry w).args in
-    let z = sym (book_good a.s a.owners.now a.book.now (passed w) (whole w) c.if3.false) in
+    let z = sym (book_good a.s a.owners.now a.book.now (passed w) (whole w) c.if-walk-book.false) in
     let good = (book_passes a.s a.owners.now a.book.now z).1 in
-    w.before.walk.ensures
+    w.before.walk-at.ensures
     ∙ walked_entry 1 a.book.now (length a.owners.now) good a.pointer (omega arith)
     ∙ place_given a.s a.owners.now a.book.now a.pointer (sym (address_given _ _ _ _ z (omega arith)))
 
 pub entry_place_spec : {M : Type 1} → statement M
 entry_place_spec =
     tie.close
-    (tie.spec
-    owners-refusal-requires
-    returns
-    returns-2
-    walk-requires
-    sub-walk
-    walk-requires-2
-    returns-3
-    returns-4)
+    (tie.spec owners_refusal-requires returns-then-owners_refusal-ne0 returns-then-g-p walk-at-requires overflow_sub-g walk-requires returns-then-walk-book returns)

@@ -18,118 +18,103 @@ use Rattle.book.proofs.RefusalLaws.{book_passes, book_bad, book_good, search_bey
 use Rattle.book.proofs.search.Statement.{statement}
 use Rattle.book.proofs.search.Tie as tie
 
-owners-refusal-requires : tie.Need-owners-refusal-requires
-owners-refusal-requires c κs = search rules
+owners_refusal-n-requires : tie.Need-owners_refusal-n-requires
+owners_refusal-n-requires c κs = search rules
 
 refused-requires : tie.Need-refused-requires
 refused-requires c κs = search rules
 
-returns : tie.Need-returns
+returns-then-n-ne0 : tie.Need-returns-then-n-ne0
 unfolding search_answer search_number book_refusal
-returns c =
-    let n = c.before.before.owners-refusal in
-    let given = c.before.if1.true in
+returns-then-n-ne0 c =
+    let n = c.before.before.owners_refusal-n in
+    let given = c.before.if-n-ne0.true in
     refused_answer n.result _ _ given (number_first _ _ _ given (number_first _ _ _ given n.ensures)) c.refused.ensures
 
-lowest-requires : tie.Need-lowest-requires
-lowest-requires c κs = search rules
+lowest-found-requires : tie.Need-lowest-found-requires
+lowest-found-requires c κs = search rules
 
-abbrev entry : tie.After-lowest → tie.Start
+abbrev entry : tie.After-lowest-found → tie.Start
 entry c = c.before.before.before.before.before.before
 
 -- at most all pointers are passed
-most : (c : tie.After-lowest) → c.lowest.result.pointer ≤ length (entry c).args.owners.now
+most : (c : tie.After-lowest-found) → c.lowest-found.result.pointer ≤ length (entry c).args.owners.now
 most c =
     let a = (entry c).args in
-    omega (arith, c.lowest.ensures.0, lowest_most (meets a.owners.now a.book.now a.owner a.wanted.now) 0 (length a.owners.now))
+    omega (arith, c.lowest-found.ensures.0, lowest_most (meets a.owners.now a.book.now a.owner a.wanted.now) 0 (length a.owners.now))
 
-sub-walk : tie.Need-overflow-sub-walk
-sub-walk c = most c
+overflow_sub-g : tie.Need-overflow_sub-g
+overflow_sub-g c = most c
 
 walk-requires : tie.Need-walk-requires
 walk-requires c κs = search rules
 
 -- 1 and 2 are passed, and the walk ends where one over all entries does
 passed : (c : tie.After-walk) → owners_refusal (entry c.before).args.s (entry c.before).args.owners.now ≡ 0
-passed c = sym c.before.before.before.owners-refusal.ensures ∙ c.before.before.if1.false
+passed c = sym c.before.before.before.owners_refusal-n.ensures ∙ c.before.before.if-n-ne0.false
 
 whole : (c : tie.After-walk) → c.walk.result ≡ walked 1 (entry c.before).args.book.now 0 (length (entry c.before).args.owners.now)
 whole c =
     let a = (entry c.before).args in
-    walked_rest 1 a.book.now c.before.lowest.result.pointer (length a.owners.now) (most c.before) c.before.lowest.ensures.1 c.walk.ensures
+    walked_rest 1 a.book.now c.before.lowest-found.result.pointer (length a.owners.now) (most c.before) c.before.lowest-found.ensures.1 c.walk.ensures
 
-refused-requires-2 : tie.Need-refused-requires-2
-refused-requires-2 c κs = search rules
+refused-requires-then-walk-book : tie.Need-refused-requires-then-walk-book
+refused-requires-then-walk-book c κs = search rules
 
-returns-2 : tie.Need-returns-2
+returns-then-walk-book : tie.Need-returns-then-walk-book
 unfolding search_answer search_number
-returns-2 c =
+returns-then-walk-book c =
     let w = c.before.before in
     refused_answer 18 _ _ (λ z. absurd (omega arith))
-    (number_first 18 _ _ (λ z. absurd (omega arith)) (book_bad _ _ _ (passed w) (whole w) c.before.if2.true))
-    c.refused2.ensures
+    (number_first 18 _ _ (λ z. absurd (omega arith)) (book_bad _ _ _ (passed w) (whole w) c.before.if-walk-book.true))
+    c.refused-then-walk-book.ensures
 
 -- it ends there: 18 is passed, and what the walk found is the lowest pointer that has both
-good : (c : tie.Else2) → book_refusal (entry c.before.before).args.s (entry c.before.before).args.owners.now (entry c.before.before).args.book.now ≡ 0
-good c = sym (book_good _ _ _ (passed c.before) (whole c.before) c.if2.false)
+good : (c : tie.Else-walk-book) → book_refusal (entry c.before.before).args.s (entry c.before.before).args.owners.now (entry c.before.before).args.book.now ≡ 0
+good c = sym (book_good _ _ _ (passed c.before) (whole c.before) c.if-walk-book.false)
 
-found : (c : tie.Else2) → c.before.before.lowest.result.pointer ≡ lowest (length (entry c.before.before).args.owners.now) (has (entry c.before.before).args.owners.now (entry c.before.before).args.book.now (entry c.before.before).args.owner (entry c.before.before).args.wanted.now)
+found : (c : tie.Else-walk-book) → c.before.before.lowest-found.result.pointer ≡ lowest (length (entry c.before.before).args.owners.now) (has (entry c.before.before).args.owners.now (entry c.before.before).args.book.now (entry c.before.before).args.owner (entry c.before.before).args.wanted.now)
 found c =
     let a = (entry c.before.before).args in
-    c.before.before.lowest.ensures.0
+    c.before.before.lowest-found.ensures.0
     ∙ lowest_meets a.owners.now a.book.now (length a.owners.now) (book_passes _ _ _ (good c)).1 a.owner a.wanted.now (length a.owners.now) (omega arith)
 
-refused-requires-3 : tie.Need-refused-requires-3
-refused-requires-3 c κs = search rules
+refused-requires-then-s-owner : tie.Need-refused-requires-then-s-owner
+refused-requires-then-s-owner c κs = search rules
 
-returns-3 : tie.Need-returns-3
+returns-then-s-owner : tie.Need-returns-then-s-owner
 unfolding search_answer
-returns-3 c = refused_answer 3 _ _ (λ z. absurd (omega arith)) (search_beyond _ _ _ (good c.before.before) _ _ c.before.if3.true) c.refused3.ensures
+returns-then-s-owner c = refused_answer 3 _ _ (λ z. absurd (omega arith)) (search_beyond _ _ _ (good c.before.before) _ _ c.before.if-s-owner.true) c.refused-then-s-owner.ensures
 
-refused-requires-4 : tie.Need-refused-requires-4
-refused-requires-4 c κs = search rules
+refused-requires-then-p-g : tie.Need-refused-requires-then-p-g
+refused-requires-then-p-g c κs = search rules
 
-returns-4 : tie.Need-returns-4
+returns-then-p-g : tie.Need-returns-then-p-g
 unfolding search_answer
-returns-4 c =
+returns-then-p-g c =
     let e = c.before.before.before in
     refused_answer 20 _ _ (λ z. absurd (omega arith))
-    (search_nowhere _ _ _ (good e) _ _ c.before.before.if3.false (omega (arith, found e, c.before.if4.true)))
-    c.refused4.ensures
+    (search_nowhere _ _ _ (good e) _ _ c.before.before.if-s-owner.false (omega (arith, found e, c.before.if-p-g.true)))
+    c.refused-then-p-g.ensures
 
-cast-accepted : tie.Need-overflow-cast-accepted
-cast-accepted c =
+overflow_cast-p : tie.Need-overflow_cast-p
+overflow_cast-p c =
     let w = c.before.before.before in
     omega (arith, most w.before, owners_few _ _ (passed w))
 
 accepted-requires : tie.Need-accepted-requires
 accepted-requires c κs = search rules
 
-returns-5 : tie.Need-returns-5
+returns : tie.Need-returns
 unfolding search_answer
-returns-5 c =
+returns c =
     let e = c.before.before.before in
     accepted_answer _ _
-    (search_found _ _ _ (good e) _ _ c.before.before.if3.false (omega (arith, found e, most e.before.before, c.before.if4.false)))
+    (search_found _ _ _ (good e) _ _ c.before.before.if-s-owner.false (omega (arith, found e, most e.before.before, c.before.if-p-g.false)))
     (found e)
     c.accepted.ensures
 
 pub search_spec : {M : Type 1} → statement M
 search_spec =
     tie.close
-    (tie.spec
-    owners-refusal-requires
-    refused-requires
-    returns
-    lowest-requires
-    sub-walk
-    walk-requires
-    refused-requires-2
-    returns-2
-    refused-requires-3
-    returns-3
-    refused-requires-4
-    returns-4
-    cast-accepted
-    accepted-requires
-    returns-5)
+    (tie.spec owners_refusal-n-requires refused-requires returns-then-n-ne0 lowest-found-requires overflow_sub-g walk-requires refused-requires-then-walk-book returns-then-walk-book refused-requires-then-s-owner returns-then-s-owner refused-requires-then-p-g returns-then-p-g overflow_cast-p accepted-requires returns)
