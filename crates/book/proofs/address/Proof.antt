@@ -14,20 +14,22 @@ entry_place-at-requires c κs = search rules
 slice_bounds-result-count : tie.Need-slice_bounds-result-count
 slice_bounds-result-count c = search rules
 
+slice_bounds-result-start : tie.Need-slice_bounds-result-start
+slice_bounds-result-start c = search rules
+
+slice_bounds-result-end : tie.Need-slice_bounds-result-end
+slice_bounds-result-end c = search rules
+
 returns-then-at-book : tie.Need-returns-then-at-book
 returns-then-at-book c =
-    let n = c.before.before in
-    let a = n.before.before.before.args in
-    part_refused a.s a.owners.now a.pointer (seen a.book) n.entry_IsPlace.ensures c.before.if-at-book.true
-
-abbrev entry : tie.Else-at-book → tie.Start
-entry c = c.before.before.before.before
+    let a = c.args in
+    part_refused a.s a.owners.now a.pointer (seen a.book) c.entry_place-at.ensures c.if-at-book.true
 
 -- the address ends in the book
-inside : (c : tie.Else-at-book) → c.before.entry_IsPlace.result-1 + 1 + get_or (entry c).args.book.now c.before.entry_IsPlace.result-1 0 ≤ length (entry c).args.book.now
+inside : (c : tie.Else-at-book) → c.entry_place-at.result + 1 + get_or c.args.book.now c.entry_place-at.result 0 ≤ length c.args.book.now
 inside c =
-    let a = (entry c).args in
-    part_inside a.s a.owners.now a.pointer a.book.now c.before.entry_IsPlace.ensures c.if-at-book.false
+    let a = c.args in
+    part_inside a.s a.owners.now a.pointer a.book.now c.entry_place-at.ensures c.if-at-book.false
 
 overflow_add-start : tie.Need-overflow_add-start
 overflow_add-start c = omega (arith, inside c)
@@ -44,23 +46,16 @@ overflow_add-end c = omega (arith, inside c.before)
 slice_bounds-result-count-2 : tie.Need-slice_bounds-result-count-2
 slice_bounds-result-count-2 c = search rules
 
-returns : tie.Need-returns
-returns c =
-    let e = c.before.before in
-    let a = (entry e).args in
-    part_given_lem a.s a.owners.now a.pointer (seen a.book) e.before.entry_IsPlace.ensures e.if-at-book.false
-
-slice_bounds-result-start : tie.Need-slice_bounds-result-start
-slice_bounds-result-start c = search rules
-
-slice_bounds-result-end : tie.Need-slice_bounds-result-end
-slice_bounds-result-end c = search rules
-
 slice_bounds-result-start-2 : tie.Need-slice_bounds-result-start-2
 slice_bounds-result-start-2 c = search rules
 
 slice_bounds-result-end-2 : tie.Need-slice_bounds-result-end-2
-slice_bounds-result-end-2 c = search rules
+slice_bounds-result-end-2 c = inside c.before
+
+returns : tie.Need-returns
+returns c =
+    let a = c.args in
+    part_given_lem a.s a.owners.now a.pointer (seen a.book) c.entry_place-at.ensures c.if-at-book.false
 
 pub address_spec : {M : Type 1} → statement M
 address_spec =

@@ -14,7 +14,7 @@ owners_refusal-requires : tie.Need-owners_refusal-requires
 owners_refusal-requires c κs = search rules
 
 returns-then-owners_refusal-ne0 : tie.Need-returns-then-owners_refusal-ne0
-returns-then-owners_refusal-ne0 c = place_refused _ _ _ _ (λ z. c.if-owners_refusal-ne0.true (c.before.owners_refusal.ensures ∙ (book_passes _ _ _ (address_passes _ _ _ _ z).0).0))
+returns-then-owners_refusal-ne0 c = place_refused _ _ _ _ (λ z. c.if-owners_refusal-ne0.true (c.owners_refusal.ensures ∙ (book_passes _ _ _ (address_passes _ _ _ _ z).0).0))
 
 returns-then-g-p : tie.Need-returns-then-g-p
 returns-then-g-p c = place_refused _ _ _ _ (λ z. let l = (address_passes _ _ _ _ z).1 in absurd (omega arith))
@@ -28,32 +28,26 @@ overflow_sub-g c = search rules
 walk-requires : tie.Need-walk-requires
 walk-requires c κs = search rules
 
-abbrev entry : tie.After-walk → tie.Start
-entry c = c.before.before.before.before.before.before.before
-
 -- 1 and 2 are passed, and the second walk ends where one over all entries does
-passed : (c : tie.After-walk) → owners_refusal (entry c).args.s (entry c).args.owners.now ≡ 0
+passed : (c : tie.After-walk) → owners_refusal c.args.s c.args.owners.now ≡ 0
 passed c =
-    let n = c.before.before.before in
-    sym n.before.owners_refusal.ensures ∙ n.if-owners_refusal-ne0.false
+    sym c.owners_refusal.ensures ∙ c.if-owners_refusal-ne0.false
 
-whole : (c : tie.After-walk) → c.walk.result ≡ walked 1 (entry c).args.book.now 0 (length (entry c).args.owners.now)
+whole : (c : tie.After-walk) → c.walk.result ≡ walked 1 c.args.book.now 0 (length c.args.owners.now)
 whole c =
-    let a = (entry c).args in
-    walked_rest 1 a.book.now a.pointer (length a.owners.now) (omega arith) c.before.walk-at.ensures c.walk.ensures
+    let a = c.args in
+    walked_rest 1 a.book.now a.pointer (length a.owners.now) (omega arith) c.walk-at.ensures c.walk.ensures
 
 returns-then-walk-book : tie.Need-returns-then-walk-book
 returns-then-walk-book c =
-    let w = c.before in
-    place_refused _ _ _ _ (λ z. let e = book_bad _ _ _ (passed w) (whole w) c.if-walk-book.true ∙ (address_passes _ _ _ _ z).0 in absurd (omega arith))
+    place_refused _ _ _ _ (λ z. let e = book_bad _ _ _ (passed c.before) (whole c.before) c.if-walk-book.true ∙ (address_passes _ _ _ _ z).0 in absurd (omega arith))
 
 returns : tie.Need-returns
 returns c =
-    let w = c.before in
-    let a = (entry w).args in
-    let z = sym (book_good a.s a.owners.now a.book.now (passed w) (whole w) c.if-walk-book.false) in
+    let a = c.args in
+    let z = sym (book_good a.s a.owners.now a.book.now (passed c.before) (whole c.before) c.if-walk-book.false) in
     let good = (book_passes a.s a.owners.now a.book.now z).1 in
-    w.before.walk-at.ensures
+    c.walk-at.ensures
     ∙ walked_entry 1 a.book.now (length a.owners.now) good a.pointer (omega arith)
     ∙ place_given a.s a.owners.now a.book.now a.pointer (sym (address_given _ _ _ _ z (omega arith)))
 

@@ -27,20 +27,17 @@ refused-requires c κs = search rules
 returns-then-n-ne0 : tie.Need-returns-then-n-ne0
 unfolding search_answer search_number book_refusal
 returns-then-n-ne0 c =
-    let n = c.before.before.owners_refusal-n in
-    let given = c.before.if-n-ne0.true in
+    let n = c.owners_refusal-n in
+    let given = c.if-n-ne0.true in
     refused_answer n.result _ _ given (number_first _ _ _ given (number_first _ _ _ given n.ensures)) c.refused.ensures
 
 lowest-found-requires : tie.Need-lowest-found-requires
 lowest-found-requires c κs = search rules
 
-abbrev entry : tie.After-lowest-found → tie.Start
-entry c = c.before.before.before.before.before.before
-
 -- at most all pointers are passed
-most : (c : tie.After-lowest-found) → c.lowest-found.result.pointer ≤ length (entry c).args.owners.now
+most : (c : tie.After-lowest-found) → c.lowest-found.result.pointer ≤ length c.args.owners.now
 most c =
-    let a = (entry c).args in
+    let a = c.args in
     omega (arith, c.lowest-found.ensures.0, lowest_most (meets a.owners.now a.book.now a.owner a.wanted.now) 0 (length a.owners.now))
 
 overflow_sub-g : tie.Need-overflow_sub-g
@@ -50,13 +47,13 @@ walk-requires : tie.Need-walk-requires
 walk-requires c κs = search rules
 
 -- 1 and 2 are passed, and the walk ends where one over all entries does
-passed : (c : tie.After-walk) → owners_refusal (entry c.before).args.s (entry c.before).args.owners.now ≡ 0
-passed c = sym c.before.before.before.owners_refusal-n.ensures ∙ c.before.before.if-n-ne0.false
+passed : (c : tie.After-walk) → owners_refusal c.args.s c.args.owners.now ≡ 0
+passed c = sym c.owners_refusal-n.ensures ∙ c.if-n-ne0.false
 
-whole : (c : tie.After-walk) → c.walk.result ≡ walked 1 (entry c.before).args.book.now 0 (length (entry c.before).args.owners.now)
+whole : (c : tie.After-walk) → c.walk.result ≡ walked 1 c.args.book.now 0 (length c.args.owners.now)
 whole c =
-    let a = (entry c.before).args in
-    walked_rest 1 a.book.now c.before.lowest-found.result.pointer (length a.owners.now) (most c.before) c.before.lowest-found.ensures.1 c.walk.ensures
+    let a = c.args in
+    walked_rest 1 a.book.now c.lowest-found.result.pointer (length a.owners.now) (most c.before) c.lowest-found.ensures.1 c.walk.ensures
 
 refused-requires-then-walk-book : tie.Need-refused-requires-then-walk-book
 refused-requires-then-walk-book c κs = search rules
@@ -64,19 +61,18 @@ refused-requires-then-walk-book c κs = search rules
 returns-then-walk-book : tie.Need-returns-then-walk-book
 unfolding search_answer search_number
 returns-then-walk-book c =
-    let w = c.before.before in
     refused_answer 18 _ _ (λ z. absurd (omega arith))
-    (number_first 18 _ _ (λ z. absurd (omega arith)) (book_bad _ _ _ (passed w) (whole w) c.before.if-walk-book.true))
+    (number_first 18 _ _ (λ z. absurd (omega arith)) (book_bad _ _ _ (passed c.before.before) (whole c.before.before) c.if-walk-book.true))
     c.refused-then-walk-book.ensures
 
 -- it ends there: 18 is passed, and what the walk found is the lowest pointer that has both
-good : (c : tie.Else-walk-book) → book_refusal (entry c.before.before).args.s (entry c.before.before).args.owners.now (entry c.before.before).args.book.now ≡ 0
+good : (c : tie.Else-walk-book) → book_refusal c.args.s c.args.owners.now c.args.book.now ≡ 0
 good c = sym (book_good _ _ _ (passed c.before) (whole c.before) c.if-walk-book.false)
 
-found : (c : tie.Else-walk-book) → c.before.before.lowest-found.result.pointer ≡ lowest (length (entry c.before.before).args.owners.now) (has (entry c.before.before).args.owners.now (entry c.before.before).args.book.now (entry c.before.before).args.owner (entry c.before.before).args.wanted.now)
+found : (c : tie.Else-walk-book) → c.lowest-found.result.pointer ≡ lowest (length c.args.owners.now) (has c.args.owners.now c.args.book.now c.args.owner c.args.wanted.now)
 found c =
-    let a = (entry c.before.before).args in
-    c.before.before.lowest-found.ensures.0
+    let a = c.args in
+    c.lowest-found.ensures.0
     ∙ lowest_meets a.owners.now a.book.now (length a.owners.now) (book_passes _ _ _ (good c)).1 a.owner a.wanted.now (length a.owners.now) (omega arith)
 
 refused-requires-then-s-owner : tie.Need-refused-requires-then-s-owner
@@ -84,7 +80,7 @@ refused-requires-then-s-owner c κs = search rules
 
 returns-then-s-owner : tie.Need-returns-then-s-owner
 unfolding search_answer
-returns-then-s-owner c = refused_answer 3 _ _ (λ z. absurd (omega arith)) (search_beyond _ _ _ (good c.before.before) _ _ c.before.if-s-owner.true) c.refused-then-s-owner.ensures
+returns-then-s-owner c = refused_answer 3 _ _ (λ z. absurd (omega arith)) (search_beyond _ _ _ (good c.before.before) _ _ c.if-s-owner.true) c.refused-then-s-owner.ensures
 
 refused-requires-then-p-g : tie.Need-refused-requires-then-p-g
 refused-requires-then-p-g c κs = search rules
@@ -92,15 +88,13 @@ refused-requires-then-p-g c κs = search rules
 returns-then-p-g : tie.Need-returns-then-p-g
 unfolding search_answer
 returns-then-p-g c =
-    let e = c.before.before.before in
     refused_answer 20 _ _ (λ z. absurd (omega arith))
-    (search_nowhere _ _ _ (good e) _ _ c.before.before.if-s-owner.false (omega (arith, found e, c.before.if-p-g.true)))
+    (search_nowhere _ _ _ (good c.before.before.before) _ _ c.if-s-owner.false (omega (arith, found c.before.before.before, c.if-p-g.true)))
     c.refused-then-p-g.ensures
 
 overflow_cast-p : tie.Need-overflow_cast-p
 overflow_cast-p c =
-    let w = c.before.before.before in
-    omega (arith, most w.before, owners_few _ _ (passed w))
+    omega (arith, most c.before.before.before.before, owners_few _ _ (passed c.before.before.before))
 
 accepted-requires : tie.Need-accepted-requires
 accepted-requires c κs = search rules
@@ -108,10 +102,9 @@ accepted-requires c κs = search rules
 returns : tie.Need-returns
 unfolding search_answer
 returns c =
-    let e = c.before.before.before in
     accepted_answer _ _
-    (search_found _ _ _ (good e) _ _ c.before.before.if-s-owner.false (omega (arith, found e, most e.before.before, c.before.if-p-g.false)))
-    (found e)
+    (search_found _ _ _ (good c.before.before.before) _ _ c.if-s-owner.false (omega (arith, found c.before.before.before, most c.before.before.before.before.before, c.if-p-g.false)))
+    (found c.before.before.before)
     c.accepted.ensures
 
 pub search_spec : {M : Type 1} → statement M

@@ -21,15 +21,11 @@ invariant_loop owners book at₀ p₀ at p = (p ≤ length owners) × (at ≡ wa
 abbrev decreases_loop : tie.decreases-loop-p
 decreases_loop owners book at₀ p₀ at p = length owners - p
 
-abbrev entry : tie.After-entry_end-end invariant_loop decreases_loop → tie.Start invariant_loop decreases_loop
-entry c = c.before.before.before.before.before
-
 -- the entry's address is a part of the book
-part : (c : tie.After-entry_end-end invariant_loop decreases_loop) → (c.before.before.loop-p.at + 1 ≤ c.entry_end-end.result) × (c.entry_end-end.result ≤ length (entry c).args.book.now)
+part : (c : tie.After-entry_end-end invariant_loop decreases_loop) → (c.loop-p.at + 1 ≤ c.entry_end-end.result) × (c.entry_end-end.result ≤ length c.args.book.now)
 part c =
-    let l = c.before.before.loop-p in
-    let s = entry c in
-    entry_within s.args.owners.now s.args.book.now (length s.args.owners.now) s.pre l.p c.before.loop-p-test.true l.invariant.1 c.entry_end-end.ensures
+    let l = c.loop-p in
+    entry_within c.args.owners.now c.args.book.now (length c.args.owners.now) c.requires l.p c.loop-p-test.true l.invariant.1 c.entry_end-end.ensures
 
 loop-p-init : tie.Need-loop-p-init invariant_loop decreases_loop
 unfolding walked some
@@ -47,27 +43,25 @@ bounds-owners-p c = omega arith
 slice_bounds-lowest-count : tie.Need-slice_bounds-lowest-count invariant_loop decreases_loop
 slice_bounds-lowest-count c = (part c.before).0
 
+slice_bounds-lowest-start : tie.Need-slice_bounds-lowest-start invariant_loop decreases_loop
+slice_bounds-lowest-start c = (part c.before).0
+
+slice_bounds-lowest-end : tie.Need-slice_bounds-lowest-end invariant_loop decreases_loop
+slice_bounds-lowest-end c = (part c.before).1
+
 lowest-found-requires : tie.Need-lowest-found-requires invariant_loop decreases_loop
 lowest-found-requires c κs = omega arith
 
--- whether pointer p has what a lower one has
-abbrev reading : tie.After-lowest-found invariant_loop decreases_loop → tie.After-entry_end-end invariant_loop decreases_loop
-reading c = c.before.before.before
-
 there : (c : tie.After-lowest-found invariant_loop decreases_loop)
-    → twin_below (entry (reading c)).args.owners.now (entry (reading c)).args.book.now (reading c).before.before.loop-p.p
-    ≡ ltb c.lowest-found.result.pointer (reading c).before.before.loop-p.p
+    → twin_below c.args.owners.now c.args.book.now c.loop-p.p
+    ≡ ltb c.lowest-found.result.pointer c.loop-p.p
 there c =
-    let e = reading c in
-    let l = e.before.before.loop-p in
-    let s = entry e in
-    twin_lowest s.args.owners.now s.args.book.now (length s.args.owners.now) s.pre l.p e.before.loop-p-test.taken l.inv.1 e.entry_end-end.ensures c.lowest-found.ensures.0
+    let l = c.loop-p in
+    twin_lowest c.args.owners.now c.args.book.now (length c.args.owners.now) c.requires l.p c.loop-p-test.true l.invariant.1 c.entry_end-end.ensures c.lowest-found.ensures.0
 
 returns-then-found-p : tie.Need-returns-then-found-p invariant_loop decreases_loop
 returns-then-found-p c =
-    let n = c.before.before in
-    let e = reading n in
-    twin_found _ _ e.before.before.loop-p.p e.before.loop-p-test.taken (there n ∙ lt-ltb _ _ c.if-found-p.true)
+    twin_found _ _ c.loop-p.p c.loop-p-test.true (there c ∙ lt-ltb _ _ c.if-found-p.true)
 
 overflow_add-p : tie.Need-overflow_add-p invariant_loop decreases_loop
 overflow_add-p c = omega arith
@@ -77,23 +71,15 @@ loop-p-smaller c = omega arith
 
 loop-p-preserved : tie.Need-loop-p-preserved invariant_loop decreases_loop
 loop-p-preserved c =
-    let n = c.before.before in
-    let e = reading n in
-    let l = e.before.before.loop-p in
-    let a = (entry e).args in (
+    let l = c.loop-p in
+    let a = c.args in (
       omega arith,
-      walked_next 1 a.book.now 0 l.p l.inv.1 e.entry_end-end.ensures,
-      twin_none a.owners.now a.book.now l.p l.inv.2 (there n ∙ le-ltb _ _ c.if-found-p.false),
+      walked_next 1 a.book.now 0 l.p l.invariant.1 c.entry_end-end.ensures,
+      twin_none a.owners.now a.book.now l.p l.invariant.2 (there c ∙ le-ltb _ _ c.if-found-p.false),
     )
 
 returns : tie.Need-returns invariant_loop decreases_loop
-returns c = let l = c.before.loop-p in twin_nowhere _ _ l.p l.invariant.0 c.loop-p-test.false l.invariant.2
-
-slice_bounds-lowest-start : tie.Need-slice_bounds-lowest-start invariant_loop decreases_loop
-slice_bounds-lowest-start c = search rules
-
-slice_bounds-lowest-end : tie.Need-slice_bounds-lowest-end invariant_loop decreases_loop
-slice_bounds-lowest-end c = search rules
+returns c = let l = c.loop-p in twin_nowhere _ _ l.p l.invariant.0 c.loop-p-test.false l.invariant.2
 
 pub has_twins_spec : {M : Type 1} → statement M
 has_twins_spec =

@@ -24,6 +24,12 @@ slice_bounds-same_bytes-count c =
     let a = s.args in
     holds_after a.book.now a.address.now a.at s.requires c.if-book-end.false
 
+pub slice_bounds-same_bytes-start : goal.slice_bounds-same_bytes-start
+slice_bounds-same_bytes-start c =
+    let s = c in
+    let a = s.args in
+    holds_after a.book.now a.address.now a.at s.requires c.if-book-end.false
+
 pub returns : goal.returns
 returns c =
     let s = c in

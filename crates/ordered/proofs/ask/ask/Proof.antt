@@ -20,85 +20,67 @@ use Rattle.tables.proofs.RowLaws.{test_as_byte}
 use Rattle.ordered.proofs.ask.ask.Statement.{statement}
 use Rattle.ordered.proofs.ask.ask.Tie as tie
 
-abbrev start : tie.After-front → tie.Start
-start c = c.before.before.before.before.before.before.before
-
 abbrev desk : tie.Start → OrderedDesk
 desk c = lent_in_order c.args.s c.args.owners.now c.args.send.now c.args.receive.now c.args.pool.now c.args.posts.now c.args.takes.now
 
-front-requires : tie.Need-front-requires
-front-requires c κs = search rules
+front-n-requires : tie.Need-front-n-requires
+front-n-requires c κs = search rules
 
 refused-requires : tie.Need-refused-requires
 refused-requires c κs = search rules
 
-returns : tie.Need-returns
+returns-then-n-ne0 : tie.Need-returns-then-n-ne0
 unfolding ask ask_number
-returns c = refused_by_front (desk (start c.before.before)) _ _ _ _ c.before.if1.true c.before.before.front.ensures c.refused.ensures
+returns-then-n-ne0 c = refused_by_front (desk c.before.before.before.before.before.before.before.before.before) _ _ _ _ c.if-n-ne0.true c.front-n.ensures c.refused.ensures
 
 -- 1, 2, 3 are not given
-passed : (c : tie.Else1) → let a = (start c.before).args in front ordered (desk (start c.before)) (ltb a.site a.s && ltb a.pointer (length a.owners.now)) ≡ 0
-passed c = sym c.before.front.ensures ∙ c.if1.false
+passed : (c : tie.Else-n-ne0) → let a = c.args in front ordered (desk c.before.before.before.before.before.before.before.before) (ltb a.site a.s && ltb a.pointer (length a.owners.now)) ≡ 0
+passed c = sym c.front-n.ensures ∙ c.if-n-ne0.false
 
-known : (c : tie.Else1) → let a = (start c.before).args in Ready in_order_slots (desk (start c.before)) a.site a.pointer
-known c = ready_names in_order_slots in_order_slots_lem (desk (start c.before)) _ _ _ (ltb-true _ _) refl (passed c)
+known : (c : tie.Else-n-ne0) → let a = c.args in Ready in_order_slots (desk c.before.before.before.before.before.before.before.before) a.site a.pointer
+known c = ready_names in_order_slots in_order_slots_lem (desk c.before.before.before.before.before.before.before.before) _ _ _ (ltb-true _ _) refl (passed c)
 
 -- the place that is read is the owner's
-at_owner : (c : tie.After-place-of) → let a = (start c.before.before.before.before).args in
+at_owner : (c : tie.After-place_of) → let a = c.args in
     c.place_of.result ≡ place (length a.owners.now) (get_or a.owners.now a.pointer 0) a.pointer
 at_owner c = c.place_of.ensures
 
-in_send : (c : tie.After-place-of) → c.place_of.result < length (start c.before.before.before.before).args.send.now
-in_send c = rw (at_owner c, ← c.before.if2.false) (known c.before.before.before).in_send
+in_send : (c : tie.After-place_of) → c.place_of.result < length c.args.send.now
+in_send c = rw (at_owner c, ← c.if-site-owner.false) (known c.before.before.before).in_send
 
-shared-slice-read-owner : tie.Need-shared-slice-read-owner
-shared-slice-read-owner c = (known c.before).a_pointer
+bounds-owners-p : tie.Need-bounds-owners-p
+bounds-owners-p c = (known c.before).a_pointer
 
-refused-requires-2 : tie.Need-refused-requires-2
-refused-requires-2 c κs = search rules
+refused-requires-then-site-owner : tie.Need-refused-requires-then-site-owner
+refused-requires-then-site-owner c κs = search rules
 
-returns-2 : tie.Need-returns-2
+returns-then-site-owner : tie.Need-returns-then-site-owner
 unfolding ask ask_number
-returns-2 c =
-    let e = c.before.before.before in
-    refused_by_own (desk (start e.before)) _ 13 _ _ (passed e) (eqb-false 13 0 refl) (rw (ne_eqb _ _ c.before.if2.true)) c.refused2.ensures
+returns-then-site-owner c =
+    refused_by_own (desk c.before.before.before.before.before.before.before.before.before.before.before) _ 13 _ _ (passed c.before.before.before) (eqb-false 13 0 refl) (rw (ne_eqb _ _ c.if-site-owner.true)) c.refused-then-site-owner.ensures
 
-place-of-requires : tie.Need-place-of-requires
-place-of-requires c κs = (known c.before.before).few_pointers
+place_of-requires : tie.Need-place_of-requires
+place_of-requires c κs = (known c.before.before).few_pointers
 
-mul-counter : tie.Need-overflow-mul-counter
-mul-counter c = omega (arith, in_send c, (start c.before.before.before.before).well_formed)
+offset_bounds-send-place_of : tie.Need-offset_bounds-send-place_of
+offset_bounds-send-place_of c = omega (arith, in_send c, c.well_formed)
 
-shared-slice-read-counter : tie.Need-shared-slice-read-counter
-shared-slice-read-counter c = in_send c.before
+bounds-send-place_of : tie.Need-bounds-send-place_of
+bounds-send-place_of c = in_send c.before
 
-cast-accepted : tie.Need-overflow-cast-accepted
-cast-accepted c = search rules
+overflow_cast-counter : tie.Need-overflow_cast-counter
+overflow_cast-counter c = search rules
 
 accepted-requires : tie.Need-accepted-requires
 accepted-requires c κs = search rules
 
-returns-3 : tie.Need-returns-3
+returns : tie.Need-returns
 unfolding ask ask_number
-returns-3 c =
-    let o = c.before.before.before in
-    let e = o.before.before in
-    asked_as in_order_slots (desk (start e.before)) _ (at_owner c.before.before) (c.accepted.ensures ∙ ap (λ (v : ℕ). accepted v Nothing) (test_as_byte (eqb (get_or (start e.before).args.send.now c.before.before.place_of.result 0) 0)))
-    ∙ accepted_by_both (desk (start e.before)) _ _ _ (passed e) (rw (eq-eqb _ _ o.if2.false))
+returns c =
+    asked_as in_order_slots (desk c.before.before.before.before.before.before.before.before.before.before.before.before.before) _ (at_owner c.before.before) (c.accepted.ensures ∙ ap (λ (v : ℕ). accepted v Nothing) (test_as_byte (eqb (get_or c.args.send.now c.place_of.result 0) 0)))
+    ∙ accepted_by_both (desk c.before.before.before.before.before.before.before.before.before.before.before.before.before) _ _ _ (passed c.before.before.before.before.before) (rw (eq-eqb _ _ c.if-site-owner.false))
 
 pub ask_spec : {M : Type 1} → statement M
 ask_spec =
     tie.close
-    (tie.spec
-    front-requires
-    refused-requires
-    returns
-    shared-slice-read-owner
-    refused-requires-2
-    returns-2
-    place-of-requires
-    mul-counter
-    shared-slice-read-counter
-    cast-accepted
-    accepted-requires
-    returns-3)
+    (tie.spec front-n-requires refused-requires returns-then-n-ne0 bounds-owners-p refused-requires-then-site-owner returns-then-site-owner place_of-requires offset_bounds-send-place_of bounds-send-place_of overflow_cast-counter accepted-requires returns)

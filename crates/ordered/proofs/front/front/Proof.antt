@@ -8,24 +8,26 @@ use Rattle.ordered.proofs.front.front.Statement.{statement}
 use Rattle.ordered.proofs.front.front.Tie as tie
 
 -- 1 and 2 are not given
-passed : (c : tie.Else1) → let a = c.before.before.before.before.before.before.before.before.args in
+passed : (c : tie.Else-n-ne0) → let a = c.args in
     lent_refusal ordered (lent_in_order a.s a.owners.now a.send.now a.receive.now a.pool.now a.posts.now a.takes.now) ≡ 0
-passed c = sym c.before.lent-refusal.ensures ∙ c.if1.false
+passed c = sym c.lent_refusal-n.ensures ∙ c.if-n-ne0.false
 
-lent-refusal-requires : tie.Need-lent-refusal-requires
-lent-refusal-requires c κs = search rules
+lent_refusal-n-requires : tie.Need-lent_refusal-n-requires
+lent_refusal-n-requires c κs = search rules
+
+returns-then-n-ne0 : tie.Need-returns-then-n-ne0
+unfolding front
+returns-then-n-ne0 c = rw (← c.lent_refusal-n.ensures) (or_else_first _ _ c.if-n-ne0.true)
+
+returns-then-named : tie.Need-returns-then-named
+unfolding front
+returns-then-named c = rw (passed c.before, c.if-named.true)
 
 returns : tie.Need-returns
 unfolding front
-returns c = rw (← c.before.lent-refusal.ensures) (or_else_first _ _ c.if1.true)
-
-returns-2 : tie.Need-returns-2
-unfolding front
-returns-2 c = rw (passed c.before, c.if2.true)
-
-returns-3 : tie.Need-returns-3
-unfolding front
-returns-3 c = rw (passed c.before, c.if2.false)
+returns c = rw (passed c.before, c.if-named.false)
 
 pub front_spec : {M : Type 1} → statement M
-front_spec = tie.close (tie.spec lent-refusal-requires returns returns-2 returns-3)
+front_spec =
+    tie.close
+    (tie.spec lent_refusal-n-requires returns-then-n-ne0 returns-then-named returns)

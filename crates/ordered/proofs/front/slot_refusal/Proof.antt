@@ -13,39 +13,37 @@ use Rattle.model.proofs.FrontLaws.{front_passed}
 use Rattle.ordered.proofs.front.slot_refusal.Statement.{statement}
 use Rattle.ordered.proofs.front.slot_refusal.Tie as tie
 
-abbrev start : tie.After-front → tie.Start
-start c = c.before.before.before.before.before.before.before
-
 abbrev desk : tie.Start → OrderedDesk
 desk c = lent_in_order c.args.s c.args.owners.now c.args.send.now c.args.receive.now c.args.pool.now c.args.posts.now c.args.takes.now
 
 -- 1, 2, 3 are not given
-passed : (c : tie.Else1) → let a = (start c.before).args in front ordered (desk (start c.before)) (ltb a.slot (slots_of 7 a.pool.now)) ≡ 0
-passed c = sym c.before.front.ensures ∙ c.if1.false
+passed : (c : tie.Else-n-ne0) → let a = c.args in front ordered (desk c.before.before.before.before.before.before.before.before) (ltb a.slot (slots_of 7 a.pool.now)) ≡ 0
+passed c = sym c.front-n.ensures ∙ c.if-n-ne0.false
 
-in_pool : (c : tie.Else1) → let a = (start c.before).args in a.slot < slots_of 7 a.pool.now
+in_pool : (c : tie.Else-n-ne0) → let a = c.args in a.slot < slots_of 7 a.pool.now
 in_pool c =
-    let a = (start c.before).args in
-    ltb-true a.slot (slots_of 7 a.pool.now) (front_passed ordered (desk (start c.before)) _ (passed c)).1
+    let a = c.args in
+    ltb-true a.slot (slots_of 7 a.pool.now) (front_passed ordered (desk c.before.before.before.before.before.before.before.before) _ (passed c)).1
 
-front-requires : tie.Need-front-requires
-front-requires c κs = search rules
+front-n-requires : tie.Need-front-n-requires
+front-n-requires c κs = search rules
+
+returns-then-n-ne0 : tie.Need-returns-then-n-ne0
+returns-then-n-ne0 c = rw (← c.front-n.ensures) (or_else_first _ _ c.if-n-ne0.true)
+
+overflow_mul-i : tie.Need-overflow_mul-i
+overflow_mul-i c = search rules
+
+bounds-pool-i : tie.Need-bounds-pool-i
+bounds-pool-i c = omega (arith, in_pool c.before)
+
+returns-then-pool-i-eq0 : tie.Need-returns-then-pool-i-eq0
+returns-then-pool-i-eq0 c = rw (passed c.before.before, eq-eqb _ _ c.if-pool-i-eq0.true)
 
 returns : tie.Need-returns
-returns c = rw (← c.before.front.ensures) (or_else_first _ _ c.if1.true)
-
-mul-if2 : tie.Need-overflow-mul-if2
-mul-if2 c = search rules
-
-shared-slice-read-if2 : tie.Need-shared-slice-read-if2
-shared-slice-read-if2 c = omega (arith, in_pool c.before)
-
-returns-2 : tie.Need-returns-2
-returns-2 c = rw (passed c.before.before, eq-eqb _ _ c.if2.true)
-
-returns-3 : tie.Need-returns-3
-returns-3 c = rw (passed c.before.before, ne_eqb _ _ c.if2.false)
+returns c = rw (passed c.before.before, ne_eqb _ _ c.if-pool-i-eq0.false)
 
 pub slot_refusal_spec : {M : Type 1} → statement M
 slot_refusal_spec =
-    tie.close (tie.spec front-requires returns mul-if2 shared-slice-read-if2 returns-2 returns-3)
+    tie.close
+    (tie.spec front-n-requires returns-then-n-ne0 overflow_mul-i bounds-pool-i returns-then-pool-i-eq0 returns)

@@ -11,65 +11,51 @@ use Rattle.ordered.proofs.lent.lent_refusal.Statement.{statement}
 use Rattle.ordered.proofs.lent.lent_refusal.Tie as tie
 
 -- what is lent
-abbrev given : tie.After-shape-good → OrderedDesk
+abbrev given : tie.After-shape_good → OrderedDesk
 given c =
-    let a = c.before.before.before.before.before.before.before.args in
+    let a = c.args in
     lent_in_order a.s a.owners.now a.send.now a.receive.now a.pool.now a.posts.now a.takes.now
 
-shape_holds : (c : tie.Else1) → ordered.shaped (given c.before) ≡ true
-shape_holds c = sym c.before.shape-good.ensures ∙ not-false _ c.if1.false
+shape_holds : (c : tie.Else-not-shape_good) → ordered.shaped (given c.before) ≡ true
+shape_holds c = sym c.shape_good.ensures ∙ c.if-not-shape_good.false
 
-bytes_tested : (c : tie.After-all-bits) → let d = given c.before.before.before in
-    (all_below d.S d.owners && all_below 2 d.receive) ≡ (c.before.all-below.result && c.all-bits.result)
-bytes_tested c = λ w. sym c.before.all-below.ensures w && sym c.all-bits.ensures w
+bytes_tested : (c : tie.After-all_bits) → let d = given c.before.before.before in
+    (all_below d.S d.owners && all_below 2 d.receive) ≡ (c.all_below.result && c.all_bits.result)
+bytes_tested c = λ w. sym c.all_below.ensures w && sym c.all_bits.ensures w
 
-bytes_hold : (c : tie.Else2) → let d = given c.before.before.before.before in (all_below d.S d.owners && all_below 2 d.receive) ≡ true
-bytes_hold c = bytes_tested c.before ∙ not-false _ c.if2.false
+bytes_hold : (c : tie.Else-not-all_below-all_bits) → let d = given c.before.before.before.before in (all_below d.S d.owners && all_below 2 d.receive) ≡ true
+bytes_hold c = bytes_tested c.before ∙ c.if-not-all_below-all_bits.false
 
-shape-good-requires : tie.Need-shape-good-requires
-shape-good-requires c κs = search rules
+shape_good-requires : tie.Need-shape_good-requires
+shape_good-requires c κs = search rules
 
-returns : tie.Need-returns
-returns c = sym (lent_by (given c.before) _ _ _ (sym c.before.shape-good.ensures ∙ not-true _ c.if1.true) refl refl)
+returns-then-not-shape_good : tie.Need-returns-then-not-shape_good
+returns-then-not-shape_good c = sym (lent_by (given c.before) _ _ _ (sym c.shape_good.ensures ∙ c.if-not-shape_good.true) refl refl)
 
-all-below-requires : tie.Need-all-below-requires
-all-below-requires c κs = ((shape_in_words (given c.before)).0 (shape_holds c)).tables.sizes.some_site
+all_below-requires : tie.Need-all_below-requires
+all_below-requires c κs = ((shape_in_words (given c.before)).0 (shape_holds c)).tables.sizes.some_site
 
-all-bits-requires : tie.Need-all-bits-requires
-all-bits-requires c κs = search rules
+all_bits-requires : tie.Need-all_bits-requires
+all_bits-requires c κs = search rules
 
-returns-2 : tie.Need-returns-2
-returns-2 c =
-    let e = c.before.before.before in
-    sym (lent_by (given e.before) _ _ _ (shape_holds e) (bytes_tested c.before ∙ not-true _ c.if2.true) refl)
+returns-then-not-all_below-all_bits : tie.Need-returns-then-not-all_below-all_bits
+returns-then-not-all_below-all_bits c =
+    sym (lent_by (given c.before.before.before.before) _ _ _ (shape_holds c.before.before.before) (bytes_tested c.before ∙ c.if-not-all_below-all_bits.true) refl)
 
-all-slots-good-requires : tie.Need-all-slots-good-requires
-all-slots-good-requires c κs =
-    let e = c.before.before.before in
-    let z = ((shape_in_words (given e.before)).0 (shape_holds e)).tables.sizes in
+all_slots_good-requires : tie.Need-all_slots_good-requires
+all_slots_good-requires c κs =
+    let z = ((shape_in_words (given c.before.before.before.before)).0 (shape_holds c.before.before.before)).tables.sizes in
     (z.few_sites, z.few_pointers)
 
-returns-3 : tie.Need-returns-3
-returns-3 c =
-    let b = c.before.before in
-    let e = b.before.before.before in
-    sym (lent_by (given e.before) _ _ _ (shape_holds e) (bytes_hold b) (sym c.before.all-slots-good.ensures ∙ c.if3.true))
+returns-then-all_slots_good : tie.Need-returns-then-all_slots_good
+returns-then-all_slots_good c =
+    sym (lent_by (given c.before.before.before.before.before.before) _ _ _ (shape_holds c.before.before.before.before.before) (bytes_hold c.before.before) (sym c.all_slots_good.ensures ∙ c.if-all_slots_good.true))
 
-returns-4 : tie.Need-returns-4
-returns-4 c =
-    let b = c.before.before in
-    let e = b.before.before.before in
-    sym (lent_by (given e.before) _ _ _ (shape_holds e) (bytes_hold b) (sym c.before.all-slots-good.ensures ∙ c.if3.false))
+returns : tie.Need-returns
+returns c =
+    sym (lent_by (given c.before.before.before.before.before.before) _ _ _ (shape_holds c.before.before.before.before.before) (bytes_hold c.before.before) (sym c.all_slots_good.ensures ∙ c.if-all_slots_good.false))
 
 pub lent_refusal_spec : {M : Type 1} → statement M
 lent_refusal_spec =
     tie.close
-    (tie.spec
-    shape-good-requires
-    returns
-    all-below-requires
-    all-bits-requires
-    returns-2
-    all-slots-good-requires
-    returns-3
-    returns-4)
+    (tie.spec shape_good-requires returns-then-not-shape_good all_below-requires all_bits-requires returns-then-not-all_below-all_bits all_slots_good-requires returns-then-all_slots_good returns)

@@ -10,106 +10,79 @@ use Rattle.ordered.proofs.opening.open_desk.Statement.{statement}
 use Rattle.ordered.proofs.opening.open_desk.Tie as tie
 
 -- what is lent
-abbrev given : tie.After-shape-good → OrderedDesk
-given c = let a = c.before.before.before.before.before.before.before.args in lent_in_order a.s a.owners.now a.send.now a.receive.now a.pool.now a.posts.now a.takes.now
+abbrev given : tie.After-shape_good → OrderedDesk
+given c = let a = c.args in lent_in_order a.s a.owners.now a.send.now a.receive.now a.pool.now a.posts.now a.takes.now
 
-shape_holds : (c : tie.Else1) → ordered.shaped (given c.before) ≡ true
-shape_holds c = sym c.before.shape-good.ensures ∙ not-false _ c.if1.false
+shape_holds : (c : tie.Else-not-shape_good) → ordered.shaped (given c.before) ≡ true
+shape_holds c = sym c.shape_good.ensures ∙ c.if-not-shape_good.false
 
-owners_hold : (c : tie.Else2) → ordered.owned (given c.before.before.before) ≡ true
-owners_hold c = sym c.before.all-below.ensures ∙ not-false _ c.if2.false
+owners_hold : (c : tie.Else-not-all_below) → ordered.owned (given c.before.before.before) ≡ true
+owners_hold c = sym c.all_below.ensures ∙ c.if-not-all_below.false
 
-shape-good-requires : tie.Need-shape-good-requires
-shape-good-requires c κs = search rules
+shape_good-requires : tie.Need-shape_good-requires
+shape_good-requires c κs = search rules
 
 refused-requires : tie.Need-refused-requires
 refused-requires c κs = search rules
 
-returns : tie.Need-returns
-returns c = shape_refused ordered (given c.before.before) (sym c.before.before.shape-good.ensures ∙ not-true _ c.before.if1.true) c.refused.ensures
+returns-then-not-shape_good : tie.Need-returns-then-not-shape_good
+returns-then-not-shape_good c = shape_refused ordered (given c.before.before) (sym c.shape_good.ensures ∙ c.if-not-shape_good.true) c.refused.ensures
 
-all-below-requires : tie.Need-all-below-requires
-all-below-requires c κs = ((shape_in_words (given c.before)).0 (shape_holds c)).tables.sizes.some_site
+all_below-requires : tie.Need-all_below-requires
+all_below-requires c κs = ((shape_in_words (given c.before)).0 (shape_holds c)).tables.sizes.some_site
 
-refused-requires-2 : tie.Need-refused-requires-2
-refused-requires-2 c κs = search rules
+refused-requires-then-not-all_below : tie.Need-refused-requires-then-not-all_below
+refused-requires-then-not-all_below c κs = search rules
 
-returns-2 : tie.Need-returns-2
-returns-2 c =
-    let e = c.before.before.before in
-    owners_refused ordered (given e.before) (shape_holds e)
-    (sym c.before.before.all-below.ensures ∙ not-true _ c.before.if2.true) c.refused2.ensures
+returns-then-not-all_below : tie.Need-returns-then-not-all_below
+returns-then-not-all_below c =
+    owners_refused ordered (given c.before.before.before.before) (shape_holds c.before.before.before)
+    (sym c.all_below.ensures ∙ c.if-not-all_below.true) c.refused-then-not-all_below.ensures
 
-clear-counters-requires : tie.Need-clear-counters-requires
-clear-counters-requires c κs = search rules
+clear_counters-requires : tie.Need-clear_counters-requires
+clear_counters-requires c κs = search rules
 
-write-rows-requires : tie.Need-write-rows-requires
-write-rows-requires c κs =
-    let e = c.before.before.before.before.before.before.before in
-    let f = ((shape_in_words (given e.before)).0 (shape_holds e)).tables in
+write_rows-requires : tie.Need-write_rows-requires
+write_rows-requires c κs =
+    let f = ((shape_in_words (given c.before.before.before.before.before.before.before.before)).0 (shape_holds c.before.before.before.before.before.before.before)).tables in
     (f.sizes.few_sites, f.sizes.few_pointers, f.receive_length)
 
-clear-slots-requires : tie.Need-clear-slots-requires
-clear-slots-requires c κs = search rules
+clear_slots-requires : tie.Need-clear_slots-requires
+clear_slots-requires c κs = search rules
 
-clear-counters-requires-2 : tie.Need-clear-counters-requires-2
-clear-counters-requires-2 c κs = search rules
+clear_counters-requires-2 : tie.Need-clear_counters-requires-2
+clear_counters-requires-2 c κs = search rules
 
-clear-counters-requires-3 : tie.Need-clear-counters-requires-3
-clear-counters-requires-3 c κs = search rules
+clear_counters-requires-3 : tie.Need-clear_counters-requires-3
+clear_counters-requires-3 c κs = search rules
 
 accepted-requires : tie.Need-accepted-requires
 accepted-requires c κs = search rules
 
-same_length : tie.Need-same-length
-same_length c = search rules
+shape_of-send : tie.Need-shape_of-send
+shape_of-send c = search rules
 
-same-length-2 : tie.Need-same-length-2
-same-length-2 c = search rules
+shape_of-receive : tie.Need-shape_of-receive
+shape_of-receive c = search rules
 
-same-length-3 : tie.Need-same-length-3
-same-length-3 c = search rules
+shape_of-pool : tie.Need-shape_of-pool
+shape_of-pool c = search rules
 
-same-length-4 : tie.Need-same-length-4
-same-length-4 c = search rules
+shape_of-posts : tie.Need-shape_of-posts
+shape_of-posts c = search rules
 
-same-length-5 : tie.Need-same-length-5
-same-length-5 c = search rules
+shape_of-takes : tie.Need-shape_of-takes
+shape_of-takes c = search rules
 
-returns-3 : tie.Need-returns-3
-returns-3 c =
-    let takes = c.before.before.before in
-    let posts = takes.before.before.before.before in
-    let slots = posts.before.before.before.before in
-    let cells = slots.before.before.before.before in
-    let counters = cells.before.before.before.before in
-    let owners = counters.before.before in
-    let shape = owners.before.before in
-    let d = given shape.before in
-    opened_as ordered d (shape_holds shape) (owners_hold owners)
-    (λ w. lent_in_order d.S d.owners (counters.clear-counters.ensures w) (cells.write-rows.ensures w) (slots.clear-slots.ensures w)
-    (posts.clear-counters2.ensures w) (takes.clear-counters3.ensures w))
+returns : tie.Need-returns
+returns c =
+    let d = given c.before.before.before.before.before.before.before.before.before.before.before.before.before.before.before.before.before.before.before.before.before.before.before.before in
+    opened_as ordered d (shape_holds c.before.before.before.before.before.before.before.before.before.before.before.before.before.before.before.before.before.before.before.before.before.before.before) (owners_hold c.before.before.before.before.before.before.before.before.before.before.before.before.before.before.before.before.before.before.before.before.before)
+    (λ w. lent_in_order d.S d.owners (c.clear_counters.ensures w) (c.write_rows.ensures w) (c.clear_slots.ensures w)
+    (c.clear_counters-2.ensures w) (c.clear_counters-3.ensures w))
     c.accepted.ensures
 
 pub open_desk_spec : {M : Type 1} → statement M
 open_desk_spec =
     tie.close
-    (tie.spec
-    shape-good-requires
-    refused-requires
-    returns
-    all-below-requires
-    refused-requires-2
-    returns-2
-    clear-counters-requires
-    write-rows-requires
-    clear-slots-requires
-    clear-counters-requires-2
-    clear-counters-requires-3
-    accepted-requires
-    same_length
-    same-length-2
-    same-length-3
-    same-length-4
-    same-length-5
-    returns-3)
+    (tie.spec shape_good-requires refused-requires returns-then-not-shape_good all_below-requires refused-requires-then-not-all_below returns-then-not-all_below clear_counters-requires write_rows-requires clear_slots-requires clear_counters-requires-2 clear_counters-requires-3 accepted-requires shape_of-send shape_of-receive shape_of-pool shape_of-posts shape_of-takes returns)

@@ -17,92 +17,75 @@ use Rattle.slots.proofs.ShareRange.{share_plus_at_most, share_minus_at_most}
 use Rattle.ordered.proofs.share.share.Statement.{statement}
 use Rattle.ordered.proofs.share.share.Tie as tie
 
-abbrev start : tie.After-share-number → tie.Start
-start c = c.before.before.before.before.before.before.before
-
 abbrev desk : tie.Start → OrderedDesk
 desk c = lent_in_order c.args.s c.args.owners.now c.args.send.now c.args.receive.now c.args.pool.now c.args.posts.now c.args.takes.now
 
 -- 1, 2, 3, 11 are not given
-passed : (c : tie.Else1) → let a = (start c.before).args in share_number ordered (desk (start c.before)) a.site a.pointer ≡ 0
-passed c = sym c.before.share_number_lem.ensures ∙ c.if1.false
+passed : (c : tie.Else-n-ne0) → let a = c.args in share_number ordered (desk c.before.before.before.before.before.before.before.before) a.site a.pointer ≡ 0
+passed c = sym c.share_number-n.ensures ∙ c.if-n-ne0.false
 
-known : (c : tie.Else1) → let a = (start c.before).args in Named ordered (desk (start c.before)) a.site a.pointer
-known c = share_named ordered (desk (start c.before)) _ _ (passed c)
+known : (c : tie.Else-n-ne0) → let a = c.args in Named ordered (desk c.before.before.before.before.before.before.before.before) a.site a.pointer
+known c = share_named ordered (desk c.before.before.before.before.before.before.before.before) _ _ (passed c)
 
-named : (c : tie.Else1) → let a = (start c.before).args in Ready in_order_slots (desk (start c.before)) a.site a.pointer
-named c = let k = known c in ready in_order_slots in_order_slots_lem (desk (start c.before)) _ _ k.good k.a_site k.a_pointer
+named : (c : tie.Else-n-ne0) → let a = c.args in Ready in_order_slots (desk c.before.before.before.before.before.before.before.before) a.site a.pointer
+named c = let k = known c in ready in_order_slots in_order_slots_lem (desk c.before.before.before.before.before.before.before.before) _ _ k.good k.a_site k.a_pointer
 
 -- the cell lies in its table
-in_receive : (c : tie.After-place-of) → c.place_of.result < length (start c.before.before.before).args.receive.now
+in_receive : (c : tie.After-place_of) → c.place_of.result < length c.args.receive.now
 in_receive c = rw c.place_of.ensures (named c.before.before).in_receive
 
 -- what is added up is the definition's
-module _ (c : tie.After-count) where
-  abbrev given : tie.Start
-  given = start c.before.before.before.before.before
-
+module _ (c : tie.After-count-pooled) where
   abbrev cell : ℕ
-  cell = get_or given.args.receive.now c.before.before.place_of.result 0
+  cell = get_or c.args.receive.now c.place_of.result 0
 
-  plus_as : cell + c.count.result.plus ≡ share_plus ordered (desk given) given.args.site given.args.pointer
+  plus_as : cell + c.count-pooled.result.plus ≡ share_plus ordered (desk c.before.before.before.before.before.before.before.before.before.before.before.before) c.args.site c.args.pointer
   unfolding share_plus
-  plus_as = rw c.before.before.place_of.ensures (omega (arith, c.count.ensures.0))
+  plus_as = rw c.place_of.ensures (omega (arith, c.count-pooled.ensures.0))
 
-  minus_as : c.count.result.minus ≡ share_minus ordered (desk given) given.args.site given.args.pointer
+  minus_as : c.count-pooled.result.minus ≡ share_minus ordered (desk c.before.before.before.before.before.before.before.before.before.before.before.before) c.args.site c.args.pointer
   unfolding share_minus
-  minus_as = c.count.ensures.1
+  minus_as = c.count-pooled.ensures.1
 
-  plus_small : cell + c.count.result.plus ≤ 1025
-  plus_small = rw plus_as (share_plus_at_most ordered ordered_laws (desk given) _ _ (known c.before.before.before.before))
+  plus_small : cell + c.count-pooled.result.plus ≤ 1025
+  plus_small = rw plus_as (share_plus_at_most ordered ordered_laws (desk c.before.before.before.before.before.before.before.before.before.before.before.before) _ _ (known c.before.before.before.before))
 
-  minus_small : c.count.result.minus ≤ 1024
-  minus_small = rw minus_as (share_minus_at_most ordered ordered_laws (desk given) _ _ (known c.before.before.before.before))
+  minus_small : c.count-pooled.result.minus ≤ 1024
+  minus_small = rw minus_as (share_minus_at_most ordered ordered_laws (desk c.before.before.before.before.before.before.before.before.before.before.before.before) _ _ (known c.before.before.before.before))
 
-share-number-requires : tie.Need-share-number-requires
-share-number-requires c κs = search rules
+share_number-n-requires : tie.Need-share_number-n-requires
+share_number-n-requires c κs = search rules
 
-returns : tie.Need-returns
-returns c = refused_share ordered (desk (start c.before)) _ _ c.if1.true c.before.share_number_lem.ensures
+returns-then-n-ne0 : tie.Need-returns-then-n-ne0
+returns-then-n-ne0 c = refused_share ordered (desk c.before.before.before.before.before.before.before.before) _ _ c.if-n-ne0.true c.share_number-n.ensures
 
-shared-slice-read-owner : tie.Need-shared-slice-read-owner
-shared-slice-read-owner c = (known c.before).a_pointer
+bounds-owners-pointer : tie.Need-bounds-owners-pointer
+bounds-owners-pointer c = (known c.before).a_pointer
 
-place-of-requires : tie.Need-place-of-requires
-place-of-requires c κs = (named c.before).few_pointers
+place_of-requires : tie.Need-place_of-requires
+place_of-requires c κs = (named c.before).few_pointers
 
-shared-slice-read-cell : tie.Need-shared-slice-read-cell
-shared-slice-read-cell c = in_receive c.before
+bounds-receive-place_of : tie.Need-bounds-receive-place_of
+bounds-receive-place_of c = in_receive c.before
 
-count-requires : tie.Need-count-requires
-count-requires c κs = (named c.before.before.before).few_slots
+count-pooled-requires : tie.Need-count-pooled-requires
+count-pooled-requires c κs = (named c.before.before.before).few_slots
 
-cast-balance : tie.Need-overflow-cast-balance
-cast-balance c = omega (arith, plus_small c)
+overflow_cast-cell : tie.Need-overflow_cast-cell
+overflow_cast-cell c = omega (arith, plus_small c)
 
-add-balance : tie.Need-overflow-add-balance
-add-balance c = omega (arith, plus_small c.before)
+overflow_add-cell : tie.Need-overflow_add-cell
+overflow_add-cell c = omega (arith, plus_small c.before)
 
 balance-requires : tie.Need-balance-requires
 balance-requires c κs = omega (arith, plus_small c.before, minus_small c.before)
 
-returns-2 : tie.Need-returns-2
-returns-2 c =
-    let counts = c.before.before in
+returns : tie.Need-returns
+returns c =
     let e : to_z w32 (of_z w32 c.balance.result) ≡ c.balance.result = search rules in
-    accepted_share ordered (desk (given counts)) _ _ (passed counts.before.before.before.before) (e ∙ c.balance.ensures ∙ (λ w. balance (plus_as counts w) (minus_as counts w)))
+    accepted_share ordered (desk c.before.before.before.before.before.before.before.before.before.before.before.before.before.before) _ _ (passed c.before.before.before.before.before.before) (e ∙ c.balance.ensures ∙ (λ w. balance (plus_as c.before.before w) (minus_as c.before.before w)))
 
 pub share_spec : {M : Type 1} → statement M
 share_spec =
     tie.close
-    (tie.spec
-    share-number-requires
-    returns
-    shared-slice-read-owner
-    place-of-requires
-    shared-slice-read-cell
-    count-requires
-    cast-balance
-    add-balance
-    balance-requires
-    returns-2)
+    (tie.spec share_number-n-requires returns-then-n-ne0 bounds-owners-pointer place_of-requires bounds-receive-place_of count-pooled-requires overflow_cast-cell overflow_add-cell balance-requires returns)

@@ -13,88 +13,65 @@ use Rattle.runner.proofs.BegunLaws.{one_line, stops, goes_on_lem}
 use Rattle.runner.proofs.session.session.Statement.{statement}
 use Rattle.runner.proofs.session.session.Tie as tie
 
-abbrev start : tie.After-open-desk → tie.Start
-start c = c.before.before.before.before.before.before.before.before.before.before.before.before.before.before.before.before
-
 -- the owners that are filled are the line's
-owners_said : (c : tie.After-open-desk) → let a = (start c).args in
-    open_desk flat (lent a.s c.before.before.before.before.before.before.before.fill-owners.new.1.0 a.send.now a.receive.now a.pool.now) ≡ open_desk flat (lent a.s (owners_in a.line.now) a.send.now a.receive.now a.pool.now)
-owners_said c = let a = (start c).args in ap (λ (l : List ℕ). open_desk flat (lent a.s l a.send.now a.receive.now a.pool.now)) c.before.before.before.before.before.before.before.fill-owners.ensures
+owners_said : (c : tie.After-open_desk-answer) → let a = c.args in
+    open_desk flat (lent a.s c.fill-owners.new.1.0 a.send.now a.receive.now a.pool.now) ≡ open_desk flat (lent a.s (owners_in a.line.now) a.send.now a.receive.now a.pool.now)
+owners_said c = let a = c.args in ap (λ (l : List ℕ). open_desk flat (lent a.s l a.send.now a.receive.now a.pool.now)) c.fill_owners.ensures
 
-fill-owners-requires : tie.Need-fill-owners-requires
-fill-owners-requires c κs = search rules
+fill_owners-requires : tie.Need-fill_owners-requires
+fill_owners-requires c κs = search rules
 
-open-desk-requires : tie.Need-open-desk-requires
-open-desk-requires c κs = search rules
+open_desk-answer-requires : tie.Need-open_desk-answer-requires
+open_desk-answer-requires c κs = search rules
 
-put-answer-requires : tie.Need-put-answer-requires
-put-answer-requires c κs = search rules
+put_answer-requires : tie.Need-put_answer-requires
+put_answer-requires c κs = search rules
 
-same_length : tie.Need-same-length
-same_length c = search rules
+shape_of-owners-then-n-ne0 : tie.Need-shape_of-owners-then-n-ne0
+shape_of-owners-then-n-ne0 c = search rules
 
-same-length-2 : tie.Need-same-length-2
-same-length-2 c = search rules
+shape_of-send-then-n-ne0 : tie.Need-shape_of-send-then-n-ne0
+shape_of-send-then-n-ne0 c = search rules
 
-same-length-3 : tie.Need-same-length-3
-same-length-3 c = search rules
+shape_of-receive-then-n-ne0 : tie.Need-shape_of-receive-then-n-ne0
+shape_of-receive-then-n-ne0 c = search rules
 
-same-length-4 : tie.Need-same-length-4
-same-length-4 c = search rules
+shape_of-pool-then-n-ne0 : tie.Need-shape_of-pool-then-n-ne0
+shape_of-pool-then-n-ne0 c = search rules
 
-same-length-5 : tie.Need-same-length-5
-same-length-5 c = search rules
+shape_of-output-then-n-ne0 : tie.Need-shape_of-output-then-n-ne0
+shape_of-output-then-n-ne0 c = search rules
+
+returns-then-n-ne0 : tie.Need-returns-then-n-ne0
+returns-then-n-ne0 c =
+    let a = c.args in
+    one_line a.output.now c.open_desk-answer.result c.put_answer.ensures
+    ∙ ap (written a.output.now) (stops c.open_desk-answer.result _ (lines_of a.rest.now) (c.open_desk-answer.ensures ∙ owners_said c.before.before.before.before.before.before.before.before.before.before.before) c.if-n-ne0.true)
+
+answer_lines-requires : tie.Need-answer_lines-requires
+answer_lines-requires c κs = search rules
+
+shape_of-owners : tie.Need-shape_of-owners
+shape_of-owners c = search rules
+
+shape_of-send : tie.Need-shape_of-send
+shape_of-send c = search rules
+
+shape_of-receive : tie.Need-shape_of-receive
+shape_of-receive c = search rules
+
+shape_of-pool : tie.Need-shape_of-pool
+shape_of-pool c = search rules
+
+shape_of-output : tie.Need-shape_of-output
+shape_of-output c = search rules
 
 returns : tie.Need-returns
 returns c =
-    let o = c.before.before.before.before.before.before.before.before.before.before.before in
-    let a = (start o).args in
-    one_line a.output.now o.open-desk.result c.before.before.before.put-answer.ensures
-    ∙ ap (written a.output.now) (stops o.open-desk.result _ (lines_of a.rest.now) (o.open-desk.ensures ∙ owners_said o) c.if1.true)
-
-answer-lines-requires : tie.Need-answer-lines-requires
-answer-lines-requires c κs = search rules
-
-same-length-6 : tie.Need-same-length-6
-same-length-6 c = search rules
-
-same-length-7 : tie.Need-same-length-7
-same-length-7 c = search rules
-
-same-length-8 : tie.Need-same-length-8
-same-length-8 c = search rules
-
-same-length-9 : tie.Need-same-length-9
-same-length-9 c = search rules
-
-same-length-10 : tie.Need-same-length-10
-same-length-10 c = search rules
-
-returns-2 : tie.Need-returns-2
-returns-2 c =
-    let w = c.before.before.before.before.before.before.before.before in
-    let e = w.before.before.before.before.before.before in
-    let o = e.before.before.before.before.before.before.before.before.before.before.before in
-    let a = (start o).args in
-    goes_on_lem o.open-desk.result _ (lines_of a.rest.now) a.output.now (o.open-desk.ensures ∙ owners_said o) e.if1.false e.before.before.before.put-answer.ensures w.answer_lines.ensures
+    let a = c.args in
+    goes_on_lem c.open_desk-answer.result _ (lines_of a.rest.now) a.output.now (c.open_desk-answer.ensures ∙ owners_said c.before.before.before.before.before.before.before.before.before.before.before.before.before.before.before.before.before.before.before.before.before.before.before.before) c.if-n-ne0.false c.put_answer.ensures c.answer_lines.ensures
 
 pub session_spec : {M : Type 1} → statement M
 session_spec =
     tie.close
-    (tie.spec
-    fill-owners-requires
-    open-desk-requires
-    put-answer-requires
-    same_length
-    same-length-2
-    same-length-3
-    same-length-4
-    same-length-5
-    returns
-    answer-lines-requires
-    same-length-6
-    same-length-7
-    same-length-8
-    same-length-9
-    same-length-10
-    returns-2)
+    (tie.spec fill_owners-requires open_desk-answer-requires put_answer-requires shape_of-owners-then-n-ne0 shape_of-send-then-n-ne0 shape_of-receive-then-n-ne0 shape_of-pool-then-n-ne0 shape_of-output-then-n-ne0 returns-then-n-ne0 answer_lines-requires shape_of-owners shape_of-send shape_of-receive shape_of-pool shape_of-output returns)

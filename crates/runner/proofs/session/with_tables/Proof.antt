@@ -29,67 +29,52 @@ few_owners c = omega (arith, (formed c.args.line.now c.requires.0.form).most)
 long : (n m : ℕ) → n ≤ m → n ≡ length (take {A = ℕ} n (replicate m 0))
 long n m h = sym (length-take-le n (replicate m 0) (rw (length-replicate {A = ℕ} m 0) h))
 
-sub-g : tie.Need-overflow-sub-g
-sub-g c = omega (arith, (formed c.before.before.before.args.line.now c.before.before.before.requires.0.form).least)
+overflow_sub-g : tie.Need-overflow_sub-g
+overflow_sub-g c = omega (arith, (formed c.args.line.now c.requires.0.form).least)
 
-mul-cells : tie.Need-overflow-mul-cells
-mul-cells c = omega (arith, few_cells c.before.before.before)
+overflow_mul-cells : tie.Need-overflow_mul-cells
+overflow_mul-cells c = omega (arith, few_cells c.before.before.before)
 
-mul-bytes : tie.Need-overflow-mul-bytes
-mul-bytes c = omega (arith, few_slots c.before.before.before)
+overflow_mul-bytes : tie.Need-overflow_mul-bytes
+overflow_mul-bytes c = omega (arith, few_slots c.before.before.before)
 
-array-borrow-prefix-owners : tie.Need-array-borrow-prefix-owners
-array-borrow-prefix-owners c = few_owners c.before.before.before
+slice_bounds-owners-end : tie.Need-slice_bounds-owners-end
+slice_bounds-owners-end c = few_owners c.before.before.before
 
-slice-aggregate-session : tie.Need-slice-aggregate-session
-slice-aggregate-session c = long _ 256 (few_owners c.before.before.before.before)
+slice_bounds-session-end : tie.Need-slice_bounds-session-end
+slice_bounds-session-end c = long _ 256 (few_owners c.before.before.before.before)
 
-array-borrow-prefix-send : tie.Need-array-borrow-prefix-send
-array-borrow-prefix-send c = few_cells c.before.before.before.before
+slice_bounds-send-end : tie.Need-slice_bounds-send-end
+slice_bounds-send-end c = few_cells c.before.before.before.before
 
-slice-aggregate-session-2 : tie.Need-slice-aggregate-session-2
-slice-aggregate-session-2 c = long _ 16384 (few_cells c.before.before.before.before.before)
+slice_bounds-session-end-2 : tie.Need-slice_bounds-session-end-2
+slice_bounds-session-end-2 c = long _ 16384 (few_cells c.before.before.before.before.before)
 
-array-borrow-prefix-receive : tie.Need-array-borrow-prefix-receive
-array-borrow-prefix-receive c = few_cells c.before.before.before.before.before
+slice_bounds-receive-end : tie.Need-slice_bounds-receive-end
+slice_bounds-receive-end c = few_cells c.before.before.before.before.before
 
-slice-aggregate-session-3 : tie.Need-slice-aggregate-session-3
-slice-aggregate-session-3 c = long _ 16384 (few_cells c.before.before.before.before.before.before)
+slice_bounds-session-end-3 : tie.Need-slice_bounds-session-end-3
+slice_bounds-session-end-3 c = long _ 16384 (few_cells c.before.before.before.before.before.before)
 
-array-borrow-prefix-pool : tie.Need-array-borrow-prefix-pool
-array-borrow-prefix-pool c = few_slots c.before.before.before.before.before.before
+slice_bounds-pool-end : tie.Need-slice_bounds-pool-end
+slice_bounds-pool-end c = few_slots c.before.before.before.before.before.before
 
-slice-aggregate-session-4 : tie.Need-slice-aggregate-session-4
-slice-aggregate-session-4 c = long _ 5120 (few_slots c.before.before.before.before.before.before.before)
+slice_bounds-session-end-4 : tie.Need-slice_bounds-session-end-4
+slice_bounds-session-end-4 c = long _ 5120 (few_slots c.before.before.before.before.before.before.before)
 
 session-requires : tie.Need-session-requires
-session-requires c κs = let start = c.before.before.before.before.before.before.before.before in (start.requires.0.form, sym (long _ 256 (few_owners start)), start.requires.1)
+session-requires c κs = (c.requires.0.form, sym (long _ 256 (few_owners c.before.before.before.before.before.before.before.before)), c.requires.1)
 
-same_length : tie.Need-same-length
-same_length c = search rules
+shape_of-output : tie.Need-shape_of-output
+shape_of-output c = search rules
 
 returns : tie.Need-returns
 returns c =
-    let start = c.before.before.before.before.before.before.before.before.before.before.before.before.before.before.before in
-    let a = start.args in
-    c.before.before.before.before.before.before.session.ensures
-    ∙ ap (λ (d : Desk). written a.output.now (begun (open_desk flat d) (lines_of a.rest.now))) (fresh_parts a.line.now a.s a.slots (few_cells start) (few_slots start))
+    let a = c.args in
+    c.session.ensures
+    ∙ ap (λ (d : Desk). written a.output.now (begun (open_desk flat d) (lines_of a.rest.now))) (fresh_parts a.line.now a.s a.slots (few_cells c.before.before.before.before.before.before.before.before.before.before.before.before.before.before.before) (few_slots c.before.before.before.before.before.before.before.before.before.before.before.before.before.before.before))
 
 pub with_tables_spec : {M : Type 1} → statement M
 with_tables_spec =
     tie.close
-    (tie.spec
-    sub-g
-    mul-cells
-    mul-bytes
-    array-borrow-prefix-owners
-    slice-aggregate-session
-    array-borrow-prefix-send
-    slice-aggregate-session-2
-    array-borrow-prefix-receive
-    slice-aggregate-session-3
-    array-borrow-prefix-pool
-    slice-aggregate-session-4
-    session-requires
-    same_length
-    returns)
+    (tie.spec overflow_sub-g overflow_mul-cells overflow_mul-bytes slice_bounds-owners-end slice_bounds-session-end slice_bounds-send-end slice_bounds-session-end-2 slice_bounds-receive-end slice_bounds-session-end-3 slice_bounds-pool-end slice_bounds-session-end-4 session-requires shape_of-output returns)

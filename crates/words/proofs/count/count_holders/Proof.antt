@@ -9,26 +9,23 @@ use Rattle.words.proofs.KnownLaws.{word_inside, count_refused, count_answered}
 use Rattle.words.proofs.count.count_holders.Statement.{statement}
 use Rattle.words.proofs.count.count_holders.Tie as tie
 
-abbrev start : tie.After-front → tie.Start
-start c = c.before.before.before.before.before
-
 abbrev desk : tie.Start → WordDesk
 desk c = lent_in_words c.args.s c.args.owners.now c.args.send.now c.args.receive.now c.args.pool.now
 
-front-requires : tie.Need-front-requires
-front-requires c κs = search rules
+front-n-requires : tie.Need-front-n-requires
+front-n-requires c κs = search rules
 
 refused-requires : tie.Need-refused-requires
 refused-requires c κs = search rules
 
-returns : tie.Need-returns
-returns c = let f = c.before.before in count_refused (desk (start f)) _ f.front.ensures c.before.if1.true c.refused.ensures
+returns-then-n-ne0 : tie.Need-returns-then-n-ne0
+returns-then-n-ne0 c = count_refused (desk c.before.before.before.before.before.before.before) _ c.front-n.ensures c.if-n-ne0.true c.refused.ensures
 
-mul-ones : tie.Need-overflow-mul-ones
-mul-ones c = search rules
+offset_bounds-receive-p : tie.Need-offset_bounds-receive-p
+offset_bounds-receive-p c = search rules
 
-shared-slice-read-ones : tie.Need-shared-slice-read-ones
-shared-slice-read-ones c = let e = c.before in word_inside (desk (start e.before)) _ e.before.front.ensures e.if1.false
+bounds-receive-p : tie.Need-bounds-receive-p
+bounds-receive-p c = word_inside (desk c.before.before.before.before.before.before.before) _ c.front-n.ensures c.if-n-ne0.false
 
 ones-requires : tie.Need-ones-requires
 ones-requires c κs = search rules
@@ -36,12 +33,11 @@ ones-requires c κs = search rules
 accepted-requires : tie.Need-accepted-requires
 accepted-requires c κs = search rules
 
-returns-2 : tie.Need-returns-2
-returns-2 c =
-    let e = c.before.before.before in
-    count_answered (desk (start e.before)) _ e.before.front.ensures e.if1.false (c.accepted.ensures ∙ ap (λ (n : ℕ). accepted n Nothing) c.before.ones.ensures)
+returns : tie.Need-returns
+returns c =
+    count_answered (desk c.before.before.before.before.before.before.before.before.before) _ c.front-n.ensures c.if-n-ne0.false (c.accepted.ensures ∙ ap (λ (n : ℕ). accepted n Nothing) c.ones.ensures)
 
 pub count_holders_spec : {M : Type 1} → statement M
 count_holders_spec =
     tie.close
-    (tie.spec front-requires refused-requires returns mul-ones shared-slice-read-ones ones-requires accepted-requires returns-2)
+    (tie.spec front-n-requires refused-requires returns-then-n-ne0 offset_bounds-receive-p bounds-receive-p ones-requires accepted-requires returns)

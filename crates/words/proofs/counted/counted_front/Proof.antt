@@ -13,45 +13,45 @@ use Rattle.words.proofs.counted.counted_front.Statement.{statement}
 use Rattle.words.proofs.counted.counted_front.Tie as tie
 
 -- what is lent
-abbrev given : tie.After-tables-refusal → WordDesk
-given c = let a = c.before.before.before.before.before.args in lent_in_words a.s a.owners.now a.send.now a.receive.now a.pool.now
+abbrev given : tie.After-tables_refusal-n → WordDesk
+given c = let a = c.args in lent_in_words a.s a.owners.now a.send.now a.receive.now a.pool.now
 
 -- 1 and 2, as the slots are
-by_slots : (c : tie.After-slots-tested) → lent_refusal words (given c.before.before) ≡ BadTable when not c.slots-tested.result.good
+by_slots : (c : tie.After-slots_tested-tested) → lent_refusal words (given c.before.before) ≡ BadTable when not c.slots_tested-tested.result.good
 by_slots c =
-    let e = c.before in
-    slots_decide word_cells held_slots (given e.before) e.before.tables-refusal.ensures e.if1.false c.slots-tested.ensures.0
+    slots_decide word_cells held_slots (given c.before.before) c.tables_refusal-n.ensures c.if-n-ne0.false c.slots_tested-tested.ensures.0
 
-passed : (c : tie.Else2) → c.before.before.slots-tested.result.good ≡ true
-passed c = not-false _ c.if2.false
+passed : (c : tie.Else-not-tested) → c.slots_tested-tested.result.good ≡ true
+passed c = not-false _ c.if-not-tested.false
 
-tables-refusal-requires : tie.Need-tables-refusal-requires
-tables-refusal-requires c κs = search rules
+tables_refusal-n-requires : tie.Need-tables_refusal-n-requires
+tables_refusal-n-requires c κs = search rules
+
+returns-then-n-ne0 : tie.Need-returns-then-n-ne0
+unfolding front
+returns-then-n-ne0 c =
+    let t = c.tables_refusal-n in
+    (number_first t.result _ _ c.if-n-ne0.true (tables_refused word_cells held_slots (given c.before) t.ensures c.if-n-ne0.true), rw (ne_eqb t.result 0 c.if-n-ne0.true))
+
+slots_tested-tested-requires : tie.Need-slots_tested-tested-requires
+slots_tested-tested-requires c κs = few_of_each word_cells held_slots (given c.before) c.tables_refusal-n.ensures c.if-n-ne0.false
+
+returns-then-not-tested : tie.Need-returns-then-not-tested
+unfolding front
+returns-then-not-tested c =
+    let bad : c.slots_tested-tested.result.good ≡ false = not-true _ c.if-not-tested.true in
+    (rw (by_slots c.before.before, bad), refl)
+
+returns-then-named : tie.Need-returns-then-named
+unfolding front
+returns-then-named c =
+    (rw (by_slots c.before.before.before, passed c.before, c.if-named.true), rw (sym c.slots_tested-tested.ensures.0 ∙ passed c.before) at c.slots_tested-tested.ensures.1)
 
 returns : tie.Need-returns
 unfolding front
-returns c =
-    let t = c.before.tables-refusal in
-    (number_first t.result _ _ c.if1.true (tables_refused word_cells held_slots (given c.before) t.ensures c.if1.true), rw (ne_eqb t.result 0 c.if1.true))
-
-slots-tested-requires : tie.Need-slots-tested-requires
-slots-tested-requires c κs = few_of_each word_cells held_slots (given c.before) c.before.tables-refusal.ensures c.if1.false
-
-returns-2 : tie.Need-returns-2
-unfolding front
-returns-2 c =
-    let bad : c.before.before.slots-tested.result.good ≡ false = not-true _ c.if2.true in
-    (rw (by_slots c.before.before, bad), refl)
-
-returns-3 : tie.Need-returns-3
-unfolding front
-returns-3 c =
-    let t = c.before.before.before in
-    (rw (by_slots t, passed c.before, c.if3.true), rw (sym t.slots-tested.ensures.0 ∙ passed c.before) at t.slots-tested.ensures.1)
-
-returns-4 : tie.Need-returns-4
-unfolding front
-returns-4 c = (rw (by_slots c.before.before.before, passed c.before, c.if3.false), refl)
+returns c = (rw (by_slots c.before.before.before, passed c.before, c.if-named.false), refl)
 
 pub counted_front_spec : {M : Type 1} → statement M
-counted_front_spec = tie.close (tie.spec tables-refusal-requires returns slots-tested-requires returns-2 returns-3 returns-4)
+counted_front_spec =
+    tie.close
+    (tie.spec tables_refusal-n-requires returns-then-n-ne0 slots_tested-tested-requires returns-then-not-tested returns-then-named returns)

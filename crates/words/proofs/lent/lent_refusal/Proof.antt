@@ -7,27 +7,27 @@ use Rattle.words.proofs.lent.lent_refusal.Statement.{statement}
 use Rattle.words.proofs.lent.lent_refusal.Tie as tie
 
 -- what is lent
-abbrev given : tie.After-tables-refusal → WordDesk
-given c = let a = c.before.before.before.before.before.args in lent_in_words a.s a.owners.now a.send.now a.receive.now a.pool.now
+abbrev given : tie.After-tables_refusal-n → WordDesk
+given c = let a = c.args in lent_in_words a.s a.owners.now a.send.now a.receive.now a.pool.now
 
-tables-refusal-requires : tie.Need-tables-refusal-requires
-tables-refusal-requires c κs = search rules
+tables_refusal-n-requires : tie.Need-tables_refusal-n-requires
+tables_refusal-n-requires c κs = search rules
+
+returns-then-n-ne0 : tie.Need-returns-then-n-ne0
+returns-then-n-ne0 c = tables_refused word_cells held_slots (given c.before) c.tables_refusal-n.ensures c.if-n-ne0.true
+
+all_slots_good-requires : tie.Need-all_slots_good-requires
+all_slots_good-requires c κs = few_of_each word_cells held_slots (given c.before) c.tables_refusal-n.ensures c.if-n-ne0.false
+
+returns-then-all_slots_good : tie.Need-returns-then-all_slots_good
+returns-then-all_slots_good c =
+    rw (slots_decide word_cells held_slots (given c.before.before.before) c.tables_refusal-n.ensures c.if-n-ne0.false c.all_slots_good.ensures, c.if-all_slots_good.true)
 
 returns : tie.Need-returns
-returns c = tables_refused word_cells held_slots (given c.before) c.before.tables-refusal.ensures c.if1.true
-
-all-slots-good-requires : tie.Need-all-slots-good-requires
-all-slots-good-requires c κs = few_of_each word_cells held_slots (given c.before) c.before.tables-refusal.ensures c.if1.false
-
-returns-2 : tie.Need-returns-2
-returns-2 c =
-    let e = c.before.before in
-    rw (slots_decide word_cells held_slots (given e.before) e.before.tables-refusal.ensures e.if1.false c.before.all-slots-good.ensures, c.if2.true)
-
-returns-3 : tie.Need-returns-3
-returns-3 c =
-    let e = c.before.before in
-    rw (slots_decide word_cells held_slots (given e.before) e.before.tables-refusal.ensures e.if1.false c.before.all-slots-good.ensures, c.if2.false)
+returns c =
+    rw (slots_decide word_cells held_slots (given c.before.before.before) c.tables_refusal-n.ensures c.if-n-ne0.false c.all_slots_good.ensures, c.if-all_slots_good.false)
 
 pub lent_refusal_spec : {M : Type 1} → statement M
-lent_refusal_spec = tie.close (tie.spec tables-refusal-requires returns all-slots-good-requires returns-2 returns-3)
+lent_refusal_spec =
+    tie.close
+    (tie.spec tables_refusal-n-requires returns-then-n-ne0 all_slots_good-requires returns-then-all_slots_good returns)

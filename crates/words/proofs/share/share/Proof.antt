@@ -16,92 +16,74 @@ use Rattle.words.proofs.KnownLaws.{Ready, ready}
 use Rattle.words.proofs.share.share.Statement.{statement}
 use Rattle.words.proofs.share.share.Tie as tie
 
-abbrev start : tie.After-share-number → tie.Start
-start c = c.before.before.before.before.before
-
 abbrev desk : tie.Start → WordDesk
 desk c = lent_in_words c.args.s c.args.owners.now c.args.send.now c.args.receive.now c.args.pool.now
 
 -- 1, 2, 3, 11 are not given
-passed : (c : tie.Else1) → let a = (start c.before).args in share_number words (desk (start c.before)) a.site a.pointer ≡ 0
-passed c = sym c.before.share_number_lem.ensures ∙ c.if1.false
+passed : (c : tie.Else-n-ne0) → let a = c.args in share_number words (desk c.before.before.before.before.before.before) a.site a.pointer ≡ 0
+passed c = sym c.share_number-n.ensures ∙ c.if-n-ne0.false
 
-named : (c : tie.Else1) → let a = (start c.before).args in Named words (desk (start c.before)) a.site a.pointer
-named c = share_named words (desk (start c.before)) _ _ (passed c)
+named : (c : tie.Else-n-ne0) → let a = c.args in Named words (desk c.before.before.before.before.before.before) a.site a.pointer
+named c = share_named words (desk c.before.before.before.before.before.before) _ _ (passed c)
 
-known : (c : tie.Else1) → let a = (start c.before).args in Ready (desk (start c.before)) a.site a.pointer
-known c = let n = named c in ready (desk (start c.before)) _ _ n.good n.a_site n.a_pointer
+known : (c : tie.Else-n-ne0) → let a = c.args in Ready (desk c.before.before.before.before.before.before) a.site a.pointer
+known c = let n = named c in ready (desk c.before.before.before.before.before.before) _ _ n.good n.a_site n.a_pointer
 
 -- what is added up is the definition's
-module _ (c : tie.After-count) where
-  abbrev given : tie.Start
-  given = start c.before.before.before.before.before
-
+module _ (c : tie.After-count-pooled) where
   abbrev cell : ℕ
-  cell = c.before.bit-of.result
+  cell = c.bit_of-cell.result
 
-  plus_as : cell + c.count.result.plus ≡ share_plus words (desk given) given.args.site given.args.pointer
+  plus_as : cell + c.count-pooled.result.plus ≡ share_plus words (desk c.before.before.before.before.before.before.before.before.before.before) c.args.site c.args.pointer
   unfolding share_plus
-  plus_as = rw c.before.bit-of.ensures (omega (arith, c.count.ensures.0))
+  plus_as = rw c.bit_of-cell.ensures (omega (arith, c.count-pooled.ensures.0))
 
-  minus_as : c.count.result.minus ≡ share_minus words (desk given) given.args.site given.args.pointer
+  minus_as : c.count-pooled.result.minus ≡ share_minus words (desk c.before.before.before.before.before.before.before.before.before.before) c.args.site c.args.pointer
   unfolding share_minus
-  minus_as = c.count.ensures.1
+  minus_as = c.count-pooled.ensures.1
 
-  plus_small : cell + c.count.result.plus ≤ 1025
-  plus_small = rw plus_as (share_plus_at_most words words_laws (desk given) _ _ (named c.before.before.before.before))
+  plus_small : cell + c.count-pooled.result.plus ≤ 1025
+  plus_small = rw plus_as (share_plus_at_most words words_laws (desk c.before.before.before.before.before.before.before.before.before.before) _ _ (named c.before.before.before.before))
 
-  minus_small : c.count.result.minus ≤ 1024
-  minus_small = rw minus_as (share_minus_at_most words words_laws (desk given) _ _ (named c.before.before.before.before))
+  minus_small : c.count-pooled.result.minus ≤ 1024
+  minus_small = rw minus_as (share_minus_at_most words words_laws (desk c.before.before.before.before.before.before.before.before.before.before) _ _ (named c.before.before.before.before))
 
-share-number-requires : tie.Need-share-number-requires
-share-number-requires c κs = search rules
+share_number-n-requires : tie.Need-share_number-n-requires
+share_number-n-requires c κs = search rules
 
-returns : tie.Need-returns
-returns c = refused_share words (desk (start c.before)) _ _ c.if1.true c.before.share_number_lem.ensures
+returns-then-n-ne0 : tie.Need-returns-then-n-ne0
+returns-then-n-ne0 c = refused_share words (desk c.before.before.before.before.before.before) _ _ c.if-n-ne0.true c.share_number-n.ensures
 
-shared-slice-read-owner : tie.Need-shared-slice-read-owner
-shared-slice-read-owner c = (known c.before).a_pointer
+bounds-owners-pointer : tie.Need-bounds-owners-pointer
+bounds-owners-pointer c = (known c.before).a_pointer
 
-mul-bit-of : tie.Need-overflow-mul-bit-of
-mul-bit-of c = search rules
+offset_bounds-receive-pointer : tie.Need-offset_bounds-receive-pointer
+offset_bounds-receive-pointer c = search rules
 
-shared-slice-read-bit-of : tie.Need-shared-slice-read-bit-of
-shared-slice-read-bit-of c = (known c.before.before).in_receive
+bounds-receive-pointer : tie.Need-bounds-receive-pointer
+bounds-receive-pointer c = (known c.before.before).in_receive
 
-bit-of-requires : tie.Need-bit-of-requires
-bit-of-requires c κs = let k = known c.before.before in omega (arith, k.a_site, k.few_sites)
+bit_of-cell-requires : tie.Need-bit_of-cell-requires
+bit_of-cell-requires c κs = let k = known c.before.before in omega (arith, k.a_site, k.few_sites)
 
-count-requires : tie.Need-count-requires
-count-requires c κs = (known c.before.before.before).few_slots
+count-pooled-requires : tie.Need-count-pooled-requires
+count-pooled-requires c κs = (known c.before.before.before).few_slots
 
-cast-balance : tie.Need-overflow-cast-balance
-cast-balance c = omega (arith, plus_small c)
+overflow_cast-cell : tie.Need-overflow_cast-cell
+overflow_cast-cell c = omega (arith, plus_small c)
 
-add-balance : tie.Need-overflow-add-balance
-add-balance c = omega (arith, plus_small c.before)
+overflow_add-cell : tie.Need-overflow_add-cell
+overflow_add-cell c = omega (arith, plus_small c.before)
 
 balance-requires : tie.Need-balance-requires
 balance-requires c κs = omega (arith, plus_small c.before, minus_small c.before)
 
-returns-2 : tie.Need-returns-2
-returns-2 c =
-    let counts = c.before.before in
+returns : tie.Need-returns
+returns c =
     let e : to_z w32 (of_z w32 c.balance.result) ≡ c.balance.result = search rules in
-    accepted_share words (desk (given counts)) _ _ (passed counts.before.before.before.before) (e ∙ c.balance.ensures ∙ (λ w. balance (plus_as counts w) (minus_as counts w)))
+    accepted_share words (desk c.before.before.before.before.before.before.before.before.before.before.before.before) _ _ (passed c.before.before.before.before.before.before) (e ∙ c.balance.ensures ∙ (λ w. balance (plus_as c.before.before w) (minus_as c.before.before w)))
 
 pub share_spec : {M : Type 1} → statement M
 share_spec =
     tie.close
-    (tie.spec
-    share-number-requires
-    returns
-    shared-slice-read-owner
-    mul-bit-of
-    shared-slice-read-bit-of
-    bit-of-requires
-    count-requires
-    cast-balance
-    add-balance
-    balance-requires
-    returns-2)
+    (tie.spec share_number-n-requires returns-then-n-ne0 bounds-owners-pointer offset_bounds-receive-pointer bounds-receive-pointer bit_of-cell-requires count-pooled-requires overflow_cast-cell overflow_add-cell balance-requires returns)

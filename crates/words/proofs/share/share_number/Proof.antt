@@ -13,34 +13,32 @@ use Rattle.word_cells.specs.WordCells.{WordDesk, lent_in_words, words}
 use Rattle.words.proofs.share.share_number.Statement.{statement}
 use Rattle.words.proofs.share.share_number.Tie as tie
 
-abbrev start : tie.After-front → tie.Start
-start c = c.before.before.before.before.before
-
 abbrev desk : tie.Start → WordDesk
 desk c = lent_in_words c.args.s c.args.owners.now c.args.send.now c.args.receive.now c.args.pool.now
 
 -- 1, 2, 3 are not given
-passed : (c : tie.Else1) → let a = (start c.before).args in front words (desk (start c.before)) (ltb a.site a.s && ltb a.pointer (length a.owners.now)) ≡ 0
-passed c = sym c.before.front.ensures ∙ c.if1.false
+passed : (c : tie.Else-n-ne0) → let a = c.args in front words (desk c.before.before.before.before.before.before) (ltb a.site a.s && ltb a.pointer (length a.owners.now)) ≡ 0
+passed c = sym c.front-n.ensures ∙ c.if-n-ne0.false
 
-front-requires : tie.Need-front-requires
-front-requires c κs = search rules
+front-n-requires : tie.Need-front-n-requires
+front-n-requires c κs = search rules
+
+returns-then-n-ne0 : tie.Need-returns-then-n-ne0
+unfolding share_number
+returns-then-n-ne0 c = rw (← c.front-n.ensures) (or_else_first _ _ c.if-n-ne0.true)
+
+bounds-owners-p : tie.Need-bounds-owners-p
+bounds-owners-p c = (both_named words (desk c.before.before.before.before.before.before.before) _ _ (passed c.before)).a_pointer
+
+returns-then-site-owners : tie.Need-returns-then-site-owners
+unfolding share_number
+returns-then-site-owners c = rw (passed c.before.before, eq-eqb _ _ c.if-site-owners.true)
 
 returns : tie.Need-returns
 unfolding share_number
-returns c = rw (← c.before.front.ensures) (or_else_first _ _ c.if1.true)
-
-shared-slice-read-if2 : tie.Need-shared-slice-read-if2
-shared-slice-read-if2 c = (both_named words (desk (start c.before.before)) _ _ (passed c.before)).a_pointer
-
-returns-2 : tie.Need-returns-2
-unfolding share_number
-returns-2 c = rw (passed c.before.before, eq-eqb _ _ c.if2.true)
-
-returns-3 : tie.Need-returns-3
-unfolding share_number
-returns-3 c = rw (passed c.before.before, ne_eqb _ _ c.if2.false)
+returns c = rw (passed c.before.before, ne_eqb _ _ c.if-site-owners.false)
 
 pub share_number_spec : {M : Type 1} → statement M
 share_number_spec =
-    tie.close (tie.spec front-requires returns shared-slice-read-if2 returns-2 returns-3)
+    tie.close
+    (tie.spec front-n-requires returns-then-n-ne0 bounds-owners-p returns-then-site-owners returns)

@@ -11,33 +11,32 @@ use Rattle.word_cells.proofs.WordLaws.{words_laws}
 use Rattle.words.proofs.sheet.sheet_by.Statement.{statement}
 use Rattle.words.proofs.sheet.sheet_by.Tie as tie
 
-abbrev start : tie.Else1 → tie.Start
-start c = c.before.before.before.before.before
-
 abbrev desk : tie.Start → WordDesk
 desk c = lent_in_words c.args.s c.args.owners.now c.args.send.now c.args.receive.now c.args.pool.now
 
 -- 1, 2, 3 are not given
-passed : (c : tie.Else1) → sheet_number words (desk (start c)) (start c).args.pointer ≡ 0
-passed c = sym (start c).requires ∙ c.if1.false
+passed : (c : tie.Else-number-ne0) → sheet_number words (desk c.before.before.before.before.before) c.args.pointer ≡ 0
+passed c = sym c.requires ∙ c.if-number-ne0.false
 
 blank-requires : tie.Need-blank-requires
 blank-requires c κs = search rules
 
-returns : tie.Need-returns
+returns-then-number-ne0 : tie.Need-returns-then-number-ne0
 unfolding sheet
-returns c = rw (← c.before.before.before.before.before.before.requires, ne_eqb _ _ c.before.if1.true) c.blank.ensures
+returns-then-number-ne0 c = rw (← c.requires, ne_eqb _ _ c.if-number-ne0.true) c.blank.ensures
 
 entries-requires : tie.Need-entries-requires
 entries-requires c κs =
-    let d = desk (start c) in
+    let d = desk c.before.before.before.before.before in
     let good = sheet_good words d _ (passed c) in
     let sites = (words_laws.some_site d good).1 in
     (words_laws.few_slots d good, λ slot l. omega (arith, column_is_site words words_laws d good slot l, sites))
 
-returns-2 : tie.Need-returns-2
+returns : tie.Need-returns
 unfolding sheet
-returns-2 c = rw (passed c.before) c.entries.ensures
+returns c = rw (passed c.before) c.entries.ensures
 
 pub sheet_by_spec : {M : Type 1} → statement M
-sheet_by_spec = tie.close (tie.spec blank-requires returns entries-requires returns-2)
+sheet_by_spec =
+    tie.close
+    (tie.spec blank-requires returns-then-number-ne0 entries-requires returns)

@@ -1,0 +1,9 @@
+-- Four slots a turn: the rows so far are the sheet of the slots so far.
+use Rattle.std.proofs.Common.{◌≡◌, ◌+◌, ◌-◌, ◌*◌, ◌/◌, ◌≤◌, length, ◌∙◌, arith, rules}
+use Rattle.model.specs.Tables.{message_at}
+use Rattle.slots.specs.FirstSlots.{entries as entries_of}
+use Rattle.slots.proofs.SheetLaws.{no_entries}
+use Rattle.numbered.proofs.entries.entries.Goals as goal
+
+pub loop-t-init : goal.loop-t-init
+loop-t-init c = (omega arith, c.blank-rows.ensures ∙ no_entries (message_at 7 c.args.pool.now) c.args.p)

@@ -1,0 +1,8 @@
+-- 1, 2, 3 and nothing else.
+use borrow.Author.Rules.{rules}
+use Rattle.model.specs.Survey.{sheet_number}
+use Rattle.words.proofs.sheet.sheet_number.Goals as goal
+
+pub returns : goal.returns
+unfolding sheet_number
+returns c = c.front.ensures
