@@ -61,7 +61,7 @@ there c =
 
 returns-then-found-p : tie.Need-returns-then-found-p invariant_loop decreases_loop
 returns-then-found-p c =
-    twin_found _ _ c.loop-p.p c.loop-p-test.true (there c ∙ lt-ltb _ _ c.if-found-p.true)
+    twin_found _ _ c.loop-p.p c.loop-p-test.true (there c.before.before ∙ lt-ltb _ _ c.if-found-p.true)
 
 overflow_add-p : tie.Need-overflow_add-p invariant_loop decreases_loop
 overflow_add-p c = omega arith
@@ -75,7 +75,7 @@ loop-p-preserved c =
     let a = c.args in (
       omega arith,
       walked_next 1 a.book.now 0 l.p l.invariant.1 c.entry_end-end.ensures,
-      twin_none a.owners.now a.book.now l.p l.invariant.2 (there c ∙ le-ltb _ _ c.if-found-p.false),
+      twin_none a.owners.now a.book.now l.p l.invariant.2 (there c.before.before ∙ le-ltb _ _ c.if-found-p.false),
     )
 
 returns : tie.Need-returns invariant_loop decreases_loop

@@ -21,190 +21,142 @@ use Rattle.posting.proofs.NumberLaws.{in_posts, copy_inside}
 use Rattle.posting.proofs.copy.make_copy.Statement.{statement}
 use Rattle.posting.proofs.copy.make_copy.Tie as tie
 
-abbrev start : tie.After-counted-front → tie.Start
-start c = c.before.before.before.before.before.before.before.before.before.before
-
 abbrev desk : tie.Start → OrderedDesk
 desk c = lent_in_order c.args.s c.args.owners.now c.args.send.now c.args.receive.now c.args.pool.now c.args.posts.now c.args.takes.now
 
-counted-front-requires : tie.Need-counted-front-requires
-counted-front-requires c κs = search rules
+counted_front-tested-requires : tie.Need-counted_front-tested-requires
+counted_front-tested-requires c κs = search rules
 
 refused-requires : tie.Need-refused-requires
 refused-requires c κs = search rules
 
-same_length : tie.Need-same-length
-same_length c = search rules
+shape_of-send-then-n-ne0 : tie.Need-shape_of-send-then-n-ne0
+shape_of-send-then-n-ne0 c = search rules
 
-same-length-2 : tie.Need-same-length-2
-same-length-2 c = search rules
+shape_of-pool-then-n-ne0 : tie.Need-shape_of-pool-then-n-ne0
+shape_of-pool-then-n-ne0 c = search rules
 
-same-length-3 : tie.Need-same-length-3
-same-length-3 c = search rules
+shape_of-posts-then-n-ne0 : tie.Need-shape_of-posts-then-n-ne0
+shape_of-posts-then-n-ne0 c = search rules
 
-returns : tie.Need-returns
+returns-then-n-ne0 : tie.Need-returns-then-n-ne0
 unfolding make_copy copy_number
-returns c = refused_by_front (desk (start c.before.before)) _ _ _ _ c.before.if1.true c.before.before.counted-front.ensures.0 c.refused.ensures
+returns-then-n-ne0 c = refused_by_front (desk c.before.before.before.before.before.before.before.before.before) _ _ _ _ c.if-n-ne0.true c.counted_front-tested.ensures.0 c.refused.ensures
 
 -- 1, 2, 3 are not given
-passed : (c : tie.Else1) → let a = (start c.before).args in
-    front ordered (desk (start c.before)) (ltb a.from a.s && ltb a.to a.s && ltb a.pointer (length a.owners.now)) ≡ 0
-passed c = sym c.before.counted-front.ensures.0 ∙ c.if1.false
+passed : (c : tie.Else-n-ne0) → let a = c.args in
+    front ordered (desk c.before.before.before.before.before.before.before.before) (ltb a.from a.s && ltb a.to a.s && ltb a.pointer (length a.owners.now)) ≡ 0
+passed c = sym c.counted_front-tested.ensures.0 ∙ c.if-n-ne0.false
 
-known : (c : tie.Else1) → let a = (start c.before).args in Ready in_order_slots (desk (start c.before)) a.from a.pointer
+known : (c : tie.Else-n-ne0) → let a = c.args in Ready in_order_slots (desk c.before.before.before.before.before.before.before.before) a.from a.pointer
 known c =
-    let a = (start c.before).args in
-    ready_names in_order_slots in_order_slots_lem (desk (start c.before)) _ _ (ltb a.from a.s && ltb a.to a.s) (λ e. ltb-true _ _ (and_both _ _ e).0) refl (passed c)
+    let a = c.args in
+    ready_names in_order_slots in_order_slots_lem (desk c.before.before.before.before.before.before.before.before) _ _ (ltb a.from a.s && ltb a.to a.s) (λ e. ltb-true _ _ (and_both _ _ e).0) refl (passed c)
 
 -- the sender's place
-in_send : (c : tie.After-place-of) → c.place_of.result < length (start c.before.before).args.send.now
-in_send c = rw c.place_of.ensures (known c.before).in_send
-
--- from the call's own tests back to the place
-abbrev place_of : tie.After-copy-refusal → tie.After-place-of
-place_of c = c.before.before.before.before.before.before
+in_send : (c : tie.After-place_of-at) → c.place_of-at.result < length c.args.send.now
+in_send c = rw c.place_of-at.ensures (known c.before).in_send
 
 -- 4, 5, 6, 7, of the desk
-own : (c : tie.After-copy-refusal) → let b = start (place_of c).before.before in let d = desk b in let a = b.args in
-    c.copy-refusal.result ≡ copy_refusal a.from a.to (ordered.owner d a.pointer) (ordered.cell d a.from a.pointer) (ordered.counter d a.from a.pointer) (lowest_empty ordered d) (ordered.slots d)
+own : (c : tie.After-copy_refusal-k) → let d = desk c.before.before.before.before.before.before.before.before.before.before.before.before.before.before in let a = c.args in
+    c.copy_refusal-k.result ≡ copy_refusal a.from a.to (ordered.owner d a.pointer) (ordered.cell d a.from a.pointer) (ordered.counter d a.from a.pointer) (lowest_empty ordered d) (ordered.slots d)
 own c =
-    let b = start (place_of c).before.before in
-    let a = b.args in
-    read_as_lem in_order_slots (desk b) a.from a.pointer (place_of c).place_of.ensures c.before.before.before.search.ensures
-    (λ cell counter slot. copy_refusal a.from a.to (ordered.owner (desk b) a.pointer) cell counter slot (slots_of 7 a.pool.now))
-    c.copy-refusal.ensures
+    let a = c.args in
+    read_as_lem in_order_slots (desk c.before.before.before.before.before.before.before.before.before.before.before.before.before.before) a.from a.pointer c.place_of-at.ensures c.search-found.ensures
+    (λ cell counter slot. copy_refusal a.from a.to (ordered.owner (desk c.before.before.before.before.before.before.before.before.before.before.before.before.before.before) a.pointer) cell counter slot (slots_of 7 a.pool.now))
+    c.copy_refusal-k.ensures
 
-place-of-requires : tie.Need-place-of-requires
-place-of-requires c κs = (known c).few_pointers
+place_of-at-requires : tie.Need-place_of-at-requires
+place_of-at-requires c κs = (known c).few_pointers
 
-mul-counter : tie.Need-overflow-mul-counter
-mul-counter c = omega (arith, in_send c, (start c.before.before).well_formed)
+offset_bounds-send-at : tie.Need-offset_bounds-send-at
+offset_bounds-send-at c = omega (arith, in_send c, c.well_formed)
 
-slice-read-counter : tie.Need-slice-read-counter
-slice-read-counter c = in_send c.before
+bounds-send-at : tie.Need-bounds-send-at
+bounds-send-at c = in_send c.before
 
-search-requires : tie.Need-search-requires
-search-requires c κs =
-    let e = c.before.before.before in
-    counted_when_passed _ _ _ e.if1.false e.before.counted-front.ensures.1
+search-found-requires : tie.Need-search-found-requires
+search-found-requires c κs =
+    counted_when_passed _ _ _ c.if-n-ne0.false c.counted_front-tested.ensures.1
 
-shared-slice-read-copy-refusal : tie.Need-shared-slice-read-copy-refusal
-shared-slice-read-copy-refusal c = (known c.before.before.before.before.before).a_pointer
+bounds-owners-p : tie.Need-bounds-owners-p
+bounds-owners-p c = (known c.before.before.before.before).a_pointer
 
-shared-slice-read-copy-refusal-2 : tie.Need-shared-slice-read-copy-refusal-2
-shared-slice-read-copy-refusal-2 c =
-    let o = c.before.before.before.before.before in
-    rw o.place_of.ensures (known o.before).in_receive
+bounds-receive-at : tie.Need-bounds-receive-at
+bounds-receive-at c =
+    rw c.place_of-at.ensures (known c.before.before.before.before.before).in_receive
 
-copy-refusal-requires : tie.Need-copy-refusal-requires
-copy-refusal-requires c κs = search rules
+copy_refusal-k-requires : tie.Need-copy_refusal-k-requires
+copy_refusal-k-requires c κs = search rules
 
-refused-requires-2 : tie.Need-refused-requires-2
-refused-requires-2 c κs = search rules
+refused-requires-then-k-ne0 : tie.Need-refused-requires-then-k-ne0
+refused-requires-then-k-ne0 c κs = search rules
 
-same-length-4 : tie.Need-same-length-4
-same-length-4 c = search rules
+shape_of-send-then-k-ne0 : tie.Need-shape_of-send-then-k-ne0
+shape_of-send-then-k-ne0 c = search rules
 
-same-length-5 : tie.Need-same-length-5
-same-length-5 c = search rules
+shape_of-pool-then-k-ne0 : tie.Need-shape_of-pool-then-k-ne0
+shape_of-pool-then-k-ne0 c = search rules
 
-same-length-6 : tie.Need-same-length-6
-same-length-6 c = search rules
+shape_of-posts-then-k-ne0 : tie.Need-shape_of-posts-then-k-ne0
+shape_of-posts-then-k-ne0 c = search rules
 
-returns-2 : tie.Need-returns-2
+returns-then-k-ne0 : tie.Need-returns-then-k-ne0
 unfolding make_copy copy_number
-returns-2 c =
-    let k = c.before.before in
-    let e = (place_of k).before in
-    refused_by_own (desk (start e.before)) _ k.copy-refusal.result _ _ (passed e) c.before.if2.true (own k) c.refused2.ensures
+returns-then-k-ne0 c =
+    refused_by_own (desk c.before.before.before.before.before.before.before.before.before.before.before.before.before.before.before.before) _ c.copy_refusal-k.result _ _ (passed c.before.before.before.before.before.before.before.before) c.if-k-ne0.true (own c.before.before) c.refused-then-k-ne0.ensures
 
 -- none of them is given: the counter can rise, and the slot is empty
-clear : (c : tie.Else2) → let k = c.before in let o = place_of k in let a = (start o.before.before).args in
-    (get_or a.send.now o.place_of.result 0 ≡ 65535 → ⊥) × (k.before.before.before.search.result.slot < slots_of 7 a.pool.now)
-clear c = copy_clear _ _ _ _ _ _ _ (sym c.before.copy-refusal.ensures ∙ c.if2.false)
+clear : (c : tie.Else-k-ne0) → let a = c.args in
+    (get_or a.send.now c.place_of-at.result 0 ≡ 65535 → ⊥) × (c.search-found.result.slot < slots_of 7 a.pool.now)
+clear c = copy_clear _ _ _ _ _ _ _ (sym c.copy_refusal-k.ensures ∙ c.if-k-ne0.false)
 
-add-send : tie.Need-overflow-add-send
-add-send c = let o = place_of c.before in omega (arith, (clear c).0, c.before.before.before.before.before.before.slice-known4.given o.place_of.result)
+overflow_add-send : tie.Need-overflow_add-send
+overflow_add-send c = omega (arith, (clear c).0, c.slice_known-4-1.given c.place_of-at.result)
 
-mul-send : tie.Need-overflow-mul-send
-mul-send c = let o = place_of c.before in omega (arith, in_send o, (start o.before.before).well_formed)
+offset_bounds-send-at-2 : tie.Need-offset_bounds-send-at-2
+offset_bounds-send-at-2 c = omega (arith, in_send c.before.before.before.before.before.before, c.well_formed)
 
-slice-write-send : tie.Need-slice-write-send
-slice-write-send c = in_send (place_of c.before)
+bounds-send-at-2 : tie.Need-bounds-send-at-2
+bounds-send-at-2 c = in_send c.before.before.before.before.before.before
 
 post-requires : tie.Need-post-requires
 post-requires c κs =
-    let k = c.before.before.before in
-    let e = (place_of k).before in
-    let a = (start e.before).args in
-    let d = desk (start e.before) in (
+    let a = c.args in
+    let d = desk c.before.before.before.before.before.before.before.before.before.before.before.before.before.before.before.before.before in (
       omega (arith, (clear c.before.before).1),
-      in_posts d (known e).lent_good (Copy a.from a.to a.pointer) (copy_inside d a.from a.to a.pointer (passed e)),
+      in_posts d (known c.before.before.before.before.before.before.before.before.before).lent_good (Copy a.from a.to a.pointer) (copy_inside d a.from a.to a.pointer (passed c.before.before.before.before.before.before.before.before.before)),
     )
 
-cast-accepted-telling : tie.Need-overflow-cast-accepted-telling
-cast-accepted-telling c =
-    let k = c.before.before.before.before.before.before.before.before.before in
-    let pool = (start (place_of k).before.before).args.pool.now in
-    omega (arith, ap (λ (f : Empties). f.count) k.before.before.before.search.ensures, at_most_all (slots_of 7 pool) (empty_at 7 pool), (known (place_of k).before).few_slots)
+overflow_cast-found : tie.Need-overflow_cast-found
+overflow_cast-found c =
+    let pool = c.args.pool.now in
+    omega (arith, ap (λ (f : Empties). f.count) c.search-found.ensures, at_most_all (slots_of 7 pool) (empty_at 7 pool), (known c.before.before.before.before.before.before.before.before.before.before.before.before.before.before.before).few_slots)
 
-cast-accepted-telling-2 : tie.Need-overflow-cast-accepted-telling-2
-cast-accepted-telling-2 c = let e = c.before.before.before.before.before.before.before.before in omega (arith, (clear e).1, (known (place_of e.before).before).few_slots)
+overflow_cast-slot : tie.Need-overflow_cast-slot
+overflow_cast-slot c = omega (arith, (clear c.before.before.before.before.before.before.before.before).1, (known c.before.before.before.before.before.before.before.before.before.before.before.before.before.before.before).few_slots)
 
-accepted-telling-requires : tie.Need-accepted-telling-requires
-accepted-telling-requires c κs = search rules
+accepted_telling-requires : tie.Need-accepted_telling-requires
+accepted_telling-requires c κs = search rules
 
-same-length-7 : tie.Need-same-length-7
-same-length-7 c = search rules
+shape_of-send : tie.Need-shape_of-send
+shape_of-send c = search rules
 
-same-length-8 : tie.Need-same-length-8
-same-length-8 c = search rules
+shape_of-pool : tie.Need-shape_of-pool
+shape_of-pool c = search rules
 
-same-length-9 : tie.Need-same-length-9
-same-length-9 c = search rules
+shape_of-posts : tie.Need-shape_of-posts
+shape_of-posts c = search rules
 
-returns-3 : tie.Need-returns-3
+returns : tie.Need-returns
 unfolding make_copy copy_number
-returns-3 c =
-    let w = c.before.before.before.before.before.before in
-    let o = w.before.before.before in
-    let k = o.before in
-    let e = (place_of k).before in
-    let d = desk (start e.before) in
-    copied_as in_order_slots d _ _ (place_of k).place_of.ensures k.before.before.before.search.ensures _ c.accepted-telling.ensures
-    (λ i. numbered_pool (w.post.ensures.0 i) (w.post.ensures.1 i) d.pool.to_receive)
-    ∙ accepted_by_both d _ _ _ (passed e) (sym (own k) ∙ o.if2.false)
+returns c =
+    let d = desk c.before.before.before.before.before.before.before.before.before.before.before.before.before.before.before.before.before.before.before.before.before.before.before.before in
+    copied_as in_order_slots d _ _ c.place_of-at.ensures c.search-found.ensures _ c.accepted_telling.ensures
+    (λ i. numbered_pool (c.post.ensures.0 i) (c.post.ensures.1 i) d.pool.to_receive)
+    ∙ accepted_by_both d _ _ _ (passed c.before.before.before.before.before.before.before.before.before.before.before.before.before.before.before.before) (sym (own c.before.before.before.before.before.before.before.before.before.before) ∙ c.if-k-ne0.false)
 
 pub make_copy_spec : {M : Type 1} → statement M
 make_copy_spec =
     tie.close
-    (tie.spec
-    counted-front-requires
-    refused-requires
-    same_length
-    same-length-2
-    same-length-3
-    returns
-    place-of-requires
-    mul-counter
-    slice-read-counter
-    search-requires
-    shared-slice-read-copy-refusal
-    shared-slice-read-copy-refusal-2
-    copy-refusal-requires
-    refused-requires-2
-    same-length-4
-    same-length-5
-    same-length-6
-    returns-2
-    add-send
-    mul-send
-    slice-write-send
-    post-requires
-    cast-accepted-telling
-    cast-accepted-telling-2
-    accepted-telling-requires
-    same-length-7
-    same-length-8
-    same-length-9
-    returns-3)
+    (tie.spec counted_front-tested-requires refused-requires shape_of-send-then-n-ne0 shape_of-pool-then-n-ne0 shape_of-posts-then-n-ne0 returns-then-n-ne0 place_of-at-requires offset_bounds-send-at bounds-send-at search-found-requires bounds-owners-p bounds-receive-at copy_refusal-k-requires refused-requires-then-k-ne0 shape_of-send-then-k-ne0 shape_of-pool-then-k-ne0 shape_of-posts-then-k-ne0 returns-then-k-ne0 overflow_add-send offset_bounds-send-at-2 bounds-send-at-2 post-requires overflow_cast-found overflow_cast-slot accepted_telling-requires shape_of-send shape_of-pool shape_of-posts returns)

@@ -21,179 +21,134 @@ use Rattle.posting.proofs.NumberLaws.{in_posts, delete_inside}
 use Rattle.posting.proofs.delete.delete.Statement.{statement}
 use Rattle.posting.proofs.delete.delete.Tie as tie
 
-abbrev start : tie.After-counted-front → tie.Start
-start c = c.before.before.before.before.before.before.before.before.before.before
-
 abbrev desk : tie.Start → OrderedDesk
 desk c = lent_in_order c.args.s c.args.owners.now c.args.send.now c.args.receive.now c.args.pool.now c.args.posts.now c.args.takes.now
 
-counted-front-requires : tie.Need-counted-front-requires
-counted-front-requires c κs = search rules
+counted_front-tested-requires : tie.Need-counted_front-tested-requires
+counted_front-tested-requires c κs = search rules
 
 refused-requires : tie.Need-refused-requires
 refused-requires c κs = search rules
 
-same_length : tie.Need-same-length
-same_length c = search rules
+shape_of-receive-then-n-ne0 : tie.Need-shape_of-receive-then-n-ne0
+shape_of-receive-then-n-ne0 c = search rules
 
-same-length-2 : tie.Need-same-length-2
-same-length-2 c = search rules
+shape_of-pool-then-n-ne0 : tie.Need-shape_of-pool-then-n-ne0
+shape_of-pool-then-n-ne0 c = search rules
 
-same-length-3 : tie.Need-same-length-3
-same-length-3 c = search rules
+shape_of-posts-then-n-ne0 : tie.Need-shape_of-posts-then-n-ne0
+shape_of-posts-then-n-ne0 c = search rules
 
-returns : tie.Need-returns
+returns-then-n-ne0 : tie.Need-returns-then-n-ne0
 unfolding delete delete_number
-returns c = refused_by_front (desk (start c.before.before)) _ _ _ _ c.before.if1.true c.before.before.counted-front.ensures.0 c.refused.ensures
+returns-then-n-ne0 c = refused_by_front (desk c.before.before.before.before.before.before.before.before.before) _ _ _ _ c.if-n-ne0.true c.counted_front-tested.ensures.0 c.refused.ensures
 
 -- 1, 2, 3 are not given
-passed : (c : tie.Else1) → let a = (start c.before).args in front ordered (desk (start c.before)) (ltb a.site a.s && ltb a.pointer (length a.owners.now)) ≡ 0
-passed c = sym c.before.counted-front.ensures.0 ∙ c.if1.false
+passed : (c : tie.Else-n-ne0) → let a = c.args in front ordered (desk c.before.before.before.before.before.before.before.before) (ltb a.site a.s && ltb a.pointer (length a.owners.now)) ≡ 0
+passed c = sym c.counted_front-tested.ensures.0 ∙ c.if-n-ne0.false
 
-known : (c : tie.Else1) → let a = (start c.before).args in Ready in_order_slots (desk (start c.before)) a.site a.pointer
-known c = ready_names in_order_slots in_order_slots_lem (desk (start c.before)) _ _ _ (ltb-true _ _) refl (passed c)
+known : (c : tie.Else-n-ne0) → let a = c.args in Ready in_order_slots (desk c.before.before.before.before.before.before.before.before) a.site a.pointer
+known c = ready_names in_order_slots in_order_slots_lem (desk c.before.before.before.before.before.before.before.before) _ _ _ (ltb-true _ _) refl (passed c)
 
 -- the site's place
-in_send : (c : tie.After-place-of) → c.place_of.result < length (start c.before.before).args.send.now
-in_send c = rw c.place_of.ensures (known c.before).in_send
+in_send : (c : tie.After-place_of-at) → c.place_of-at.result < length c.args.send.now
+in_send c = rw c.place_of-at.ensures (known c.before).in_send
 
-in_receive : (c : tie.After-place-of) → c.place_of.result < length (start c.before.before).args.receive.now
-in_receive c = rw c.place_of.ensures (known c.before).in_receive
-
--- from the call's own tests back to the place
-abbrev place_of : tie.After-delete-refusal → tie.After-place-of
-place_of c = c.before.before.before.before.before.before
+in_receive : (c : tie.After-place_of-at) → c.place_of-at.result < length c.args.receive.now
+in_receive c = rw c.place_of-at.ensures (known c.before).in_receive
 
 -- 11, 5, 12, 7, of the desk
-own : (c : tie.After-delete-refusal) → let b = start (place_of c).before.before in let d = desk b in let a = b.args in
-    c.delete-refusal.result ≡ delete_refusal a.site (ordered.owner d a.pointer) (ordered.cell d a.site a.pointer) (ordered.counter d a.site a.pointer) (lowest_empty ordered d) (ordered.slots d)
+own : (c : tie.After-delete_refusal-k) → let d = desk c.before.before.before.before.before.before.before.before.before.before.before.before.before.before in let a = c.args in
+    c.delete_refusal-k.result ≡ delete_refusal a.site (ordered.owner d a.pointer) (ordered.cell d a.site a.pointer) (ordered.counter d a.site a.pointer) (lowest_empty ordered d) (ordered.slots d)
 own c =
-    let b = start (place_of c).before.before in
-    let a = b.args in
-    read_as_lem in_order_slots (desk b) a.site a.pointer (place_of c).place_of.ensures c.before.before.before.search.ensures
-    (λ cell counter slot. delete_refusal a.site (ordered.owner (desk b) a.pointer) cell counter slot (slots_of 7 a.pool.now))
-    c.delete-refusal.ensures
+    let a = c.args in
+    read_as_lem in_order_slots (desk c.before.before.before.before.before.before.before.before.before.before.before.before.before.before) a.site a.pointer c.place_of-at.ensures c.search-found.ensures
+    (λ cell counter slot. delete_refusal a.site (ordered.owner (desk c.before.before.before.before.before.before.before.before.before.before.before.before.before.before) a.pointer) cell counter slot (slots_of 7 a.pool.now))
+    c.delete_refusal-k.ensures
 
-place-of-requires : tie.Need-place-of-requires
-place-of-requires c κs = (known c).few_pointers
+place_of-at-requires : tie.Need-place_of-at-requires
+place_of-at-requires c κs = (known c).few_pointers
 
-shared-slice-read-owner : tie.Need-shared-slice-read-owner
-shared-slice-read-owner c = (known c.before.before).a_pointer
+bounds-owners-p : tie.Need-bounds-owners-p
+bounds-owners-p c = (known c.before.before).a_pointer
 
-search-requires : tie.Need-search-requires
-search-requires c κs =
-    let e = c.before.before.before in
-    counted_when_passed _ _ _ e.if1.false e.before.counted-front.ensures.1
+search-found-requires : tie.Need-search-found-requires
+search-found-requires c κs =
+    counted_when_passed _ _ _ c.if-n-ne0.false c.counted_front-tested.ensures.1
 
-slice-read-delete-refusal : tie.Need-slice-read-delete-refusal
-slice-read-delete-refusal c = in_receive c.before.before.before.before
+bounds-receive-at : tie.Need-bounds-receive-at
+bounds-receive-at c = in_receive c.before.before.before
 
-mul-delete-refusal : tie.Need-overflow-mul-delete-refusal
-mul-delete-refusal c = let o = c.before.before.before.before in omega (arith, in_send o, (start o.before.before).well_formed)
+offset_bounds-send-at : tie.Need-offset_bounds-send-at
+offset_bounds-send-at c = omega (arith, in_send c.before.before.before, c.well_formed)
 
-shared-slice-read-delete-refusal : tie.Need-shared-slice-read-delete-refusal
-shared-slice-read-delete-refusal c = in_send c.before.before.before.before.before
+bounds-send-at : tie.Need-bounds-send-at
+bounds-send-at c = in_send c.before.before.before.before
 
-delete-refusal-requires : tie.Need-delete-refusal-requires
-delete-refusal-requires c κs = search rules
+delete_refusal-k-requires : tie.Need-delete_refusal-k-requires
+delete_refusal-k-requires c κs = search rules
 
-refused-requires-2 : tie.Need-refused-requires-2
-refused-requires-2 c κs = search rules
+refused-requires-then-k-ne0 : tie.Need-refused-requires-then-k-ne0
+refused-requires-then-k-ne0 c κs = search rules
 
-same-length-4 : tie.Need-same-length-4
-same-length-4 c = search rules
+shape_of-receive-then-k-ne0 : tie.Need-shape_of-receive-then-k-ne0
+shape_of-receive-then-k-ne0 c = search rules
 
-same-length-5 : tie.Need-same-length-5
-same-length-5 c = search rules
+shape_of-pool-then-k-ne0 : tie.Need-shape_of-pool-then-k-ne0
+shape_of-pool-then-k-ne0 c = search rules
 
-same-length-6 : tie.Need-same-length-6
-same-length-6 c = search rules
+shape_of-posts-then-k-ne0 : tie.Need-shape_of-posts-then-k-ne0
+shape_of-posts-then-k-ne0 c = search rules
 
-returns-2 : tie.Need-returns-2
+returns-then-k-ne0 : tie.Need-returns-then-k-ne0
 unfolding delete delete_number
-returns-2 c =
-    let k = c.before.before in
-    let e = (place_of k).before in
-    refused_by_own (desk (start e.before)) _ k.delete-refusal.result _ _ (passed e) c.before.if2.true (own k) c.refused2.ensures
+returns-then-k-ne0 c =
+    refused_by_own (desk c.before.before.before.before.before.before.before.before.before.before.before.before.before.before.before.before) _ c.delete_refusal-k.result _ _ (passed c.before.before.before.before.before.before.before.before) c.if-k-ne0.true (own c.before.before) c.refused-then-k-ne0.ensures
 
 -- none of them is given: the slot is empty
-clear : (c : tie.Else2) → let k = c.before in k.before.before.before.search.result.slot < slots_of 7 (start (place_of k).before.before).args.pool.now
-clear c = delete_clear _ _ _ _ _ _ (sym c.before.delete-refusal.ensures ∙ c.if2.false)
+clear : (c : tie.Else-k-ne0) → c.search-found.result.slot < slots_of 7 c.args.pool.now
+clear c = delete_clear _ _ _ _ _ _ (sym c.delete_refusal-k.ensures ∙ c.if-k-ne0.false)
 
-slice-write-receive : tie.Need-slice-write-receive
-slice-write-receive c = in_receive (place_of c.before)
+bounds-receive-at-2 : tie.Need-bounds-receive-at-2
+bounds-receive-at-2 c = in_receive c.before.before.before.before.before.before
 
 post-requires : tie.Need-post-requires
 post-requires c κs =
-    let k = c.before.before.before in
-    let e = (place_of k).before in
-    let a = (start e.before).args in
-    let d = desk (start e.before) in (
+    let a = c.args in
+    let d = desk c.before.before.before.before.before.before.before.before.before.before.before.before.before.before.before.before.before in (
       omega (arith, clear c.before.before),
-      in_posts d (known e).lent_good (Dec a.site (get_or a.owners.now a.pointer 0) a.pointer) (delete_inside d a.site a.pointer (passed e)),
+      in_posts d (known c.before.before.before.before.before.before.before.before.before).lent_good (Dec a.site (get_or a.owners.now a.pointer 0) a.pointer) (delete_inside d a.site a.pointer (passed c.before.before.before.before.before.before.before.before.before)),
     )
 
-cast-accepted-telling : tie.Need-overflow-cast-accepted-telling
-cast-accepted-telling c =
-    let k = c.before.before.before.before.before.before.before.before.before in
-    let pool = (start (place_of k).before.before).args.pool.now in
-    omega (arith, ap (λ (f : Empties). f.count) k.before.before.before.search.ensures, at_most_all (slots_of 7 pool) (empty_at 7 pool), (known (place_of k).before).few_slots)
+overflow_cast-found : tie.Need-overflow_cast-found
+overflow_cast-found c =
+    let pool = c.args.pool.now in
+    omega (arith, ap (λ (f : Empties). f.count) c.search-found.ensures, at_most_all (slots_of 7 pool) (empty_at 7 pool), (known c.before.before.before.before.before.before.before.before.before.before.before.before.before.before.before).few_slots)
 
-cast-accepted-telling-2 : tie.Need-overflow-cast-accepted-telling-2
-cast-accepted-telling-2 c = let e = c.before.before.before.before.before.before.before.before in omega (arith, clear e, (known (place_of e.before).before).few_slots)
+overflow_cast-slot : tie.Need-overflow_cast-slot
+overflow_cast-slot c = omega (arith, clear c.before.before.before.before.before.before.before.before, (known c.before.before.before.before.before.before.before.before.before.before.before.before.before.before.before).few_slots)
 
-accepted-telling-requires : tie.Need-accepted-telling-requires
-accepted-telling-requires c κs = search rules
+accepted_telling-requires : tie.Need-accepted_telling-requires
+accepted_telling-requires c κs = search rules
 
-same-length-7 : tie.Need-same-length-7
-same-length-7 c = search rules
+shape_of-receive : tie.Need-shape_of-receive
+shape_of-receive c = search rules
 
-same-length-8 : tie.Need-same-length-8
-same-length-8 c = search rules
+shape_of-pool : tie.Need-shape_of-pool
+shape_of-pool c = search rules
 
-same-length-9 : tie.Need-same-length-9
-same-length-9 c = search rules
+shape_of-posts : tie.Need-shape_of-posts
+shape_of-posts c = search rules
 
-returns-3 : tie.Need-returns-3
+returns : tie.Need-returns
 unfolding delete delete_number
-returns-3 c =
-    let w = c.before.before.before.before.before.before in
-    let o = w.before.before.before in
-    let k = o.before in
-    let e = (place_of k).before in
-    let d = desk (start e.before) in
-    deleted_as in_order_slots d _ _ (place_of k).place_of.ensures k.before.before.before.search.ensures c.accepted-telling.ensures
-    (λ i. numbered_pool (w.post.ensures.0 i) (w.post.ensures.1 i) d.pool.to_receive)
-    ∙ accepted_by_both d _ _ _ (passed e) (sym (own k) ∙ o.if2.false)
+returns c =
+    let d = desk c.before.before.before.before.before.before.before.before.before.before.before.before.before.before.before.before.before.before.before.before.before.before.before.before in
+    deleted_as in_order_slots d _ _ c.place_of-at.ensures c.search-found.ensures c.accepted_telling.ensures
+    (λ i. numbered_pool (c.post.ensures.0 i) (c.post.ensures.1 i) d.pool.to_receive)
+    ∙ accepted_by_both d _ _ _ (passed c.before.before.before.before.before.before.before.before.before.before.before.before.before.before.before.before) (sym (own c.before.before.before.before.before.before.before.before.before.before) ∙ c.if-k-ne0.false)
 
 pub delete_spec : {M : Type 1} → statement M
 delete_spec =
     tie.close
-    (tie.spec
-    counted-front-requires
-    refused-requires
-    same_length
-    same-length-2
-    same-length-3
-    returns
-    place-of-requires
-    shared-slice-read-owner
-    search-requires
-    slice-read-delete-refusal
-    mul-delete-refusal
-    shared-slice-read-delete-refusal
-    delete-refusal-requires
-    refused-requires-2
-    same-length-4
-    same-length-5
-    same-length-6
-    returns-2
-    slice-write-receive
-    post-requires
-    cast-accepted-telling
-    cast-accepted-telling-2
-    accepted-telling-requires
-    same-length-7
-    same-length-8
-    same-length-9
-    returns-3)
+    (tie.spec counted_front-tested-requires refused-requires shape_of-receive-then-n-ne0 shape_of-pool-then-n-ne0 shape_of-posts-then-n-ne0 returns-then-n-ne0 place_of-at-requires bounds-owners-p search-found-requires bounds-receive-at offset_bounds-send-at bounds-send-at delete_refusal-k-requires refused-requires-then-k-ne0 shape_of-receive-then-k-ne0 shape_of-pool-then-k-ne0 shape_of-posts-then-k-ne0 returns-then-k-ne0 bounds-receive-at-2 post-requires overflow_cast-found overflow_cast-slot accepted_telling-requires shape_of-receive shape_of-pool shape_of-posts returns)

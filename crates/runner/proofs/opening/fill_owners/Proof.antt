@@ -19,8 +19,8 @@ abbrev decreases_loop : tie.decreases-loop-p
 decreases_loop line owners₀ p₀ owners p = length owners₀ - p
 
 -- the pointer that is filled is one of the line's
-within : (c : tie.In-loop-p invariant_loop decreases_loop) → c.before.loop-p.p < pointers_in c.before.before.before.before.args.line.now
-within c = omega (arith, c.before.loop-p.invariant.long, c.loop-p-test.true, c.before.before.before.before.requires.1)
+within : (c : tie.In-loop-p invariant_loop decreases_loop) → c.loop-p.p < pointers_in c.args.line.now
+within c = omega (arith, c.loop-p.invariant.long, c.loop-p-test.true, c.requires.1)
 
 loop-p-init : tie.Need-loop-p-init invariant_loop decreases_loop
 loop-p-init c = filled_none _ _ (owners_long c.args.line.now ∙ sym c.requires.1)
@@ -33,13 +33,13 @@ byte_at-requires c κs = omega (arith, within c)
 
 overflow_cast-owners : tie.Need-overflow_cast-owners invariant_loop decreases_loop
 overflow_cast-owners c =
-    omega (arith, c.byte_at.ensures, byte_below_lem c.args.line.now (c.loop-p.p + 3) c.requires.0 (omega (arith, within c)))
+    omega (arith, c.byte_at.ensures, byte_below_lem c.args.line.now (c.loop-p.p + 3) c.requires.0 (omega (arith, within c.before)))
 
 bounds-owners-p : tie.Need-bounds-owners-p invariant_loop decreases_loop
 bounds-owners-p c = c.loop-p-test.true
 
 overflow_add-p-in-loop-p : tie.Need-overflow_add-p-in-loop-p invariant_loop decreases_loop
-overflow_add-p-in-loop-p c = omega (arith, within c, c.well_formed)
+overflow_add-p-in-loop-p c = omega (arith, within c.before, c.well_formed)
 
 loop-p-smaller : tie.Need-loop-p-smaller invariant_loop decreases_loop
 loop-p-smaller c = omega (arith, c.loop-p.invariant.long, c.loop-p-test.true)
@@ -48,7 +48,7 @@ loop-p-preserved : tie.Need-loop-p-preserved invariant_loop decreases_loop
 loop-p-preserved c =
     let line = c.args.line.now in
     filled_more c.loop-p.p _ 0 c.loop-p-test.true
-    (c.byte_at.ensures ∙ sym (up_to_at (pointers_in line) (λ p. byte_at line (p + 3)) 0 c.loop-p.p (within c))) c.loop-p.invariant
+    (c.byte_at.ensures ∙ sym (up_to_at (pointers_in line) (λ p. byte_at line (p + 3)) 0 c.loop-p.p (within c.before))) c.loop-p.invariant
 
 shape_of-owners : tie.Need-shape_of-owners invariant_loop decreases_loop
 shape_of-owners c = c.loop-p.invariant.long

@@ -82,6 +82,12 @@ slice_bounds-with_tables-end c = line_long c.before.before.before.before
 slice_bounds-with_tables-count : tie.Need-slice_bounds-with_tables-count
 slice_bounds-with_tables-count c = omega (arith, within c.before.before.before.before, past c.before.before.before.before)
 
+slice_bounds-with_tables-start : tie.Need-slice_bounds-with_tables-start
+slice_bounds-with_tables-start c = omega (arith, within c.before.before.before.before, past c.before.before.before.before)
+
+slice_bounds-with_tables-end-2 : tie.Need-slice_bounds-with_tables-end-2
+slice_bounds-with_tables-end-2 c = search rules
+
 with_tables-requires : tie.Need-with_tables-requires
 with_tables-requires c κs =
     let t = c.args.input.now in
@@ -99,12 +105,6 @@ returns c =
     ∙ ap (λ (rest : List ℕ). written a.output.now (begun (open_desk flat (fresh c.opening-1.given.0.0 (owners_in line) c.opening-1.given.0.1.0)) (lines_of rest))) (rest_whole c.before.before.before.before.before.before.before.before.before)
     ∙ ap (λ (x : Outcome Desk). written a.output.now (begun x (lines_of (drop c.past_first-from.result a.input.now)))) (opens_fresh line asked)
     ∙ ap (written a.output.now) (first c.before.before.before.before.before.before.before.before.before)
-
-slice_bounds-with_tables-start : tie.Need-slice_bounds-with_tables-start
-slice_bounds-with_tables-start c = search rules
-
-slice_bounds-with_tables-end-2 : tie.Need-slice_bounds-with_tables-end-2
-slice_bounds-with_tables-end-2 c = search rules
 
 pub begin_spec : {M : Type 1} → statement M
 begin_spec =

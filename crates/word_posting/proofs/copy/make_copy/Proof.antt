@@ -20,175 +20,131 @@ use Rattle.words.proofs.KnownLaws.{Ready, ready_names}
 use Rattle.word_posting.proofs.copy.make_copy.Statement.{statement}
 use Rattle.word_posting.proofs.copy.make_copy.Tie as tie
 
-abbrev start : tie.After-counted-front → tie.Start
-start c = c.before.before.before.before.before.before.before
-
 abbrev desk : tie.Start → WordDesk
 desk c = lent_in_words c.args.s c.args.owners.now c.args.send.now c.args.receive.now c.args.pool.now
 
-counted-front-requires : tie.Need-counted-front-requires
-counted-front-requires c κs = search rules
+counted_front-tested-requires : tie.Need-counted_front-tested-requires
+counted_front-tested-requires c κs = search rules
 
 refused-requires : tie.Need-refused-requires
 refused-requires c κs = search rules
 
-same_length : tie.Need-same-length
-same_length c = search rules
+shape_of-send-then-n-ne0 : tie.Need-shape_of-send-then-n-ne0
+shape_of-send-then-n-ne0 c = search rules
 
-same-length-2 : tie.Need-same-length-2
-same-length-2 c = search rules
+shape_of-pool-then-n-ne0 : tie.Need-shape_of-pool-then-n-ne0
+shape_of-pool-then-n-ne0 c = search rules
+
+returns-then-n-ne0 : tie.Need-returns-then-n-ne0
+unfolding make_copy copy_number
+returns-then-n-ne0 c = refused_by_front (desk c.before.before.before.before.before.before.before) _ _ _ _ c.if-n-ne0.true c.counted_front-tested.ensures.0 c.refused.ensures
+
+-- 1, 2, 3 are not given
+passed : (c : tie.Else-n-ne0) → let a = c.args in front words (desk c.before.before.before.before.before.before) (ltb a.from a.s && ltb a.to a.s && ltb a.pointer (length a.owners.now)) ≡ 0
+passed c = sym c.counted_front-tested.ensures.0 ∙ c.if-n-ne0.false
+
+known : (c : tie.Else-n-ne0) → let a = c.args in Ready (desk c.before.before.before.before.before.before) a.from a.pointer
+known c =
+    let a = c.args in
+    ready_names (desk c.before.before.before.before.before.before) _ _ (ltb a.from a.s && ltb a.to a.s) (λ e. ltb-true _ _ (and_both _ _ e).0) refl (passed c)
+
+-- the sender's place
+in_send : (c : tie.After-place_of-at) → c.place_of-at.result < length c.args.send.now
+in_send c = rw c.place_of-at.ensures (known c.before).in_send
+
+-- 4, 5, 6, 7, of the desk
+own : (c : tie.After-copy_refusal-k) → let d = desk c.before.before.before.before.before.before.before.before.before.before.before.before.before in let a = c.args in
+    c.copy_refusal-k.result ≡ copy_refusal a.from a.to (words.owner d a.pointer) (words.cell d a.from a.pointer) (words.counter d a.from a.pointer) (lowest_empty words d) (words.slots d)
+own c =
+    let a = c.args in
+    read_by word_cells held_slots (desk c.before.before.before.before.before.before.before.before.before.before.before.before.before) a.from a.pointer c.place_of-at.ensures c.search-found.ensures c.bit_of.ensures
+    (λ cell counter slot. copy_refusal a.from a.to (words.owner (desk c.before.before.before.before.before.before.before.before.before.before.before.before.before) a.pointer) cell counter slot (slots_of 5 a.pool.now))
+    c.copy_refusal-k.ensures
+
+place_of-at-requires : tie.Need-place_of-at-requires
+place_of-at-requires c κs = (known c).few_pointers
+
+offset_bounds-send-at : tie.Need-offset_bounds-send-at
+offset_bounds-send-at c = omega (arith, in_send c, c.well_formed)
+
+bounds-send-at : tie.Need-bounds-send-at
+bounds-send-at c = in_send c.before
+
+search-found-requires : tie.Need-search-found-requires
+search-found-requires c κs =
+    counted_when_passed _ _ _ c.if-n-ne0.false c.counted_front-tested.ensures.1
+
+bounds-owners-p : tie.Need-bounds-owners-p
+bounds-owners-p c = (known c.before.before.before.before).a_pointer
+
+offset_bounds-receive-p : tie.Need-offset_bounds-receive-p
+offset_bounds-receive-p c = search rules
+
+bounds-receive-p : tie.Need-bounds-receive-p
+bounds-receive-p c = (known c.before.before.before.before.before).in_receive
+
+bit_of-requires : tie.Need-bit_of-requires
+bit_of-requires c κs = let k = known c.before.before.before.before.before in omega (arith, k.a_site, k.few_sites)
+
+copy_refusal-k-requires : tie.Need-copy_refusal-k-requires
+copy_refusal-k-requires c κs = search rules
+
+refused-requires-then-k-ne0 : tie.Need-refused-requires-then-k-ne0
+refused-requires-then-k-ne0 c κs = search rules
+
+shape_of-send-then-k-ne0 : tie.Need-shape_of-send-then-k-ne0
+shape_of-send-then-k-ne0 c = search rules
+
+shape_of-pool-then-k-ne0 : tie.Need-shape_of-pool-then-k-ne0
+shape_of-pool-then-k-ne0 c = search rules
+
+returns-then-k-ne0 : tie.Need-returns-then-k-ne0
+unfolding make_copy copy_number
+returns-then-k-ne0 c =
+    refused_by_own (desk c.before.before.before.before.before.before.before.before.before.before.before.before.before.before.before) _ c.copy_refusal-k.result _ _ (passed c.before.before.before.before.before.before.before.before.before) c.if-k-ne0.true (own c.before.before) c.refused-then-k-ne0.ensures
+
+-- none of them is given: the counter can rise, and the slot is empty
+clear : (c : tie.Else-k-ne0) → let a = c.args in
+    (get_or a.send.now c.place_of-at.result 0 ≡ 65535 → ⊥) × (c.search-found.result.slot < slots_of 5 a.pool.now)
+clear c = copy_clear _ _ _ _ _ _ _ (sym c.copy_refusal-k.ensures ∙ c.if-k-ne0.false)
+
+overflow_add-send : tie.Need-overflow_add-send
+overflow_add-send c = omega (arith, (clear c).0, c.slice_known-3-1.given c.place_of-at.result)
+
+offset_bounds-send-at-2 : tie.Need-offset_bounds-send-at-2
+offset_bounds-send-at-2 c = omega (arith, in_send c.before.before.before.before.before.before.before, c.well_formed)
+
+bounds-send-at-2 : tie.Need-bounds-send-at-2
+bounds-send-at-2 c = in_send c.before.before.before.before.before.before.before
+
+write_slot-requires : tie.Need-write_slot-requires
+write_slot-requires c κs = omega (arith, (clear c.before).1)
+
+overflow_cast-found : tie.Need-overflow_cast-found
+overflow_cast-found c =
+    let pool = c.args.pool.now in
+    omega (arith, ap (λ (f : Empties). f.count) c.search-found.ensures, at_most_all (slots_of 5 pool) (empty_at 5 pool), (known c.before.before.before.before.before.before.before.before.before.before.before.before.before).few_slots)
+
+overflow_cast-slot : tie.Need-overflow_cast-slot
+overflow_cast-slot c = omega (arith, (clear c.before.before.before.before.before).1, (known c.before.before.before.before.before.before.before.before.before.before.before.before.before).few_slots)
+
+accepted_telling-requires : tie.Need-accepted_telling-requires
+accepted_telling-requires c κs = search rules
+
+shape_of-send : tie.Need-shape_of-send
+shape_of-send c = search rules
+
+shape_of-pool : tie.Need-shape_of-pool
+shape_of-pool c = search rules
 
 returns : tie.Need-returns
 unfolding make_copy copy_number
-returns c = refused_by_front (desk (start c.before.before)) _ _ _ _ c.before.if1.true c.before.before.counted-front.ensures.0 c.refused.ensures
-
--- 1, 2, 3 are not given
-passed : (c : tie.Else1) → let a = (start c.before).args in front words (desk (start c.before)) (ltb a.from a.s && ltb a.to a.s && ltb a.pointer (length a.owners.now)) ≡ 0
-passed c = sym c.before.counted-front.ensures.0 ∙ c.if1.false
-
-known : (c : tie.Else1) → let a = (start c.before).args in Ready (desk (start c.before)) a.from a.pointer
-known c =
-    let a = (start c.before).args in
-    ready_names (desk (start c.before)) _ _ (ltb a.from a.s && ltb a.to a.s) (λ e. ltb-true _ _ (and_both _ _ e).0) refl (passed c)
-
--- the sender's place
-in_send : (c : tie.After-place-of) → c.place_of.result < length (start c.before.before).args.send.now
-in_send c = rw c.place_of.ensures (known c.before).in_send
-
--- from the call's own tests back to the place
-abbrev place_of : tie.After-copy-refusal → tie.After-place-of
-place_of c = c.before.before.before.before.before.before.before
-
--- 4, 5, 6, 7, of the desk
-own : (c : tie.After-copy-refusal) → let b = start (place_of c).before.before in let d = desk b in let a = b.args in
-    c.copy-refusal.result ≡ copy_refusal a.from a.to (words.owner d a.pointer) (words.cell d a.from a.pointer) (words.counter d a.from a.pointer) (lowest_empty words d) (words.slots d)
-own c =
-    let b = start (place_of c).before.before in
-    let a = b.args in
-    read_by word_cells held_slots (desk b) a.from a.pointer (place_of c).place_of.ensures c.before.before.before.before.search.ensures c.before.bit-of.ensures
-    (λ cell counter slot. copy_refusal a.from a.to (words.owner (desk b) a.pointer) cell counter slot (slots_of 5 a.pool.now))
-    c.copy-refusal.ensures
-
-place-of-requires : tie.Need-place-of-requires
-place-of-requires c κs = (known c).few_pointers
-
-mul-counter : tie.Need-overflow-mul-counter
-mul-counter c = omega (arith, in_send c, (start c.before.before).well_formed)
-
-slice-read-counter : tie.Need-slice-read-counter
-slice-read-counter c = in_send c.before
-
-search-requires : tie.Need-search-requires
-search-requires c κs =
-    let e = c.before.before.before in
-    counted_when_passed _ _ _ e.if1.false e.before.counted-front.ensures.1
-
-shared-slice-read-copy-refusal : tie.Need-shared-slice-read-copy-refusal
-shared-slice-read-copy-refusal c = (known c.before.before.before.before.before).a_pointer
-
-mul-bit-of : tie.Need-overflow-mul-bit-of
-mul-bit-of c = search rules
-
-shared-slice-read-bit-of : tie.Need-shared-slice-read-bit-of
-shared-slice-read-bit-of c = (known c.before.before.before.before.before.before).in_receive
-
-bit-of-requires : tie.Need-bit-of-requires
-bit-of-requires c κs = let k = known c.before.before.before.before.before.before in omega (arith, k.a_site, k.few_sites)
-
-copy-refusal-requires : tie.Need-copy-refusal-requires
-copy-refusal-requires c κs = search rules
-
-refused-requires-2 : tie.Need-refused-requires-2
-refused-requires-2 c κs = search rules
-
-same-length-3 : tie.Need-same-length-3
-same-length-3 c = search rules
-
-same-length-4 : tie.Need-same-length-4
-same-length-4 c = search rules
-
-returns-2 : tie.Need-returns-2
-unfolding make_copy copy_number
-returns-2 c =
-    let k = c.before.before in
-    let e = (place_of k).before in
-    refused_by_own (desk (start e.before)) _ k.copy-refusal.result _ _ (passed e) c.before.if2.true (own k) c.refused2.ensures
-
--- none of them is given: the counter can rise, and the slot is empty
-clear : (c : tie.Else2) → let k = c.before in let o = place_of k in let a = (start o.before.before).args in
-    (get_or a.send.now o.place_of.result 0 ≡ 65535 → ⊥) × (k.before.before.before.before.search.result.slot < slots_of 5 a.pool.now)
-clear c = copy_clear _ _ _ _ _ _ _ (sym c.before.copy-refusal.ensures ∙ c.if2.false)
-
-add-send : tie.Need-overflow-add-send
-add-send c = let o = place_of c.before in omega (arith, (clear c).0, c.before.before.before.before.before.before.before.slice-known3.given o.place_of.result)
-
-mul-send : tie.Need-overflow-mul-send
-mul-send c = let o = place_of c.before in omega (arith, in_send o, (start o.before.before).well_formed)
-
-slice-write-send : tie.Need-slice-write-send
-slice-write-send c = in_send (place_of c.before)
-
-write-slot-requires : tie.Need-write-slot-requires
-write-slot-requires c κs = omega (arith, (clear c.before).1)
-
-cast-accepted-telling : tie.Need-overflow-cast-accepted-telling
-cast-accepted-telling c =
-    let k = c.before.before.before.before.before.before in
-    let pool = (start (place_of k).before.before).args.pool.now in
-    omega (arith, ap (λ (f : Empties). f.count) k.before.before.before.before.search.ensures, at_most_all (slots_of 5 pool) (empty_at 5 pool), (known (place_of k).before).few_slots)
-
-cast-accepted-telling-2 : tie.Need-overflow-cast-accepted-telling-2
-cast-accepted-telling-2 c = let e = c.before.before.before.before.before in omega (arith, (clear e).1, (known (place_of e.before).before).few_slots)
-
-accepted-telling-requires : tie.Need-accepted-telling-requires
-accepted-telling-requires c κs = search rules
-
-same-length-5 : tie.Need-same-length-5
-same-length-5 c = search rules
-
-same-length-6 : tie.Need-same-length-6
-same-length-6 c = search rules
-
-returns-3 : tie.Need-returns-3
-unfolding make_copy copy_number
-returns-3 c =
-    let w = c.before.before.before.before in
-    let o = w.before.before in
-    let k = o.before in
-    let e = (place_of k).before in
-    let d = desk (start e.before) in
-    copied_by word_cells held_slots d _ _ (place_of k).place_of.ensures k.before.before.before.before.search.ensures _ c.accepted-telling.ensures w.write-slot.ensures
-    ∙ accepted_by_both d _ _ _ (passed e) (sym (own k) ∙ o.if2.false)
+returns c =
+    let d = desk c.before.before.before.before.before.before.before.before.before.before.before.before.before.before.before.before.before.before.before.before in
+    copied_by word_cells held_slots d _ _ c.place_of-at.ensures c.search-found.ensures _ c.accepted_telling.ensures c.write_slot.ensures
+    ∙ accepted_by_both d _ _ _ (passed c.before.before.before.before.before.before.before.before.before.before.before.before.before.before) (sym (own c.before.before.before.before.before.before.before) ∙ c.if-k-ne0.false)
 
 pub make_copy_spec : {M : Type 1} → statement M
 make_copy_spec =
     tie.close
-    (tie.spec
-    counted-front-requires
-    refused-requires
-    same_length
-    same-length-2
-    returns
-    place-of-requires
-    mul-counter
-    slice-read-counter
-    search-requires
-    shared-slice-read-copy-refusal
-    mul-bit-of
-    shared-slice-read-bit-of
-    bit-of-requires
-    copy-refusal-requires
-    refused-requires-2
-    same-length-3
-    same-length-4
-    returns-2
-    add-send
-    mul-send
-    slice-write-send
-    write-slot-requires
-    cast-accepted-telling
-    cast-accepted-telling-2
-    accepted-telling-requires
-    same-length-5
-    same-length-6
-    returns-3)
+    (tie.spec counted_front-tested-requires refused-requires shape_of-send-then-n-ne0 shape_of-pool-then-n-ne0 returns-then-n-ne0 place_of-at-requires offset_bounds-send-at bounds-send-at search-found-requires bounds-owners-p offset_bounds-receive-p bounds-receive-p bit_of-requires copy_refusal-k-requires refused-requires-then-k-ne0 shape_of-send-then-k-ne0 shape_of-pool-then-k-ne0 returns-then-k-ne0 overflow_add-send offset_bounds-send-at-2 bounds-send-at-2 write_slot-requires overflow_cast-found overflow_cast-slot accepted_telling-requires shape_of-send shape_of-pool returns)

@@ -16,217 +16,152 @@ use Rattle.word_posting.proofs.MessageLaws.{ready_message, decided_bit}
 use Rattle.word_posting.proofs.receive.receive.Statement.{statement}
 use Rattle.word_posting.proofs.receive.receive.Tie as tie
 
-abbrev start : tie.After-slot-refusal → tie.Start
-start c = c.before.before.before.before.before.before.before.before
-
 abbrev desk : tie.Start → WordDesk
 desk c = lent_in_words c.args.s c.args.owners.now c.args.send.now c.args.receive.now c.args.pool.now
 
-slot-refusal-requires : tie.Need-slot-refusal-requires
-slot-refusal-requires c κs = search rules
+slot_refusal-n-requires : tie.Need-slot_refusal-n-requires
+slot_refusal-n-requires c κs = search rules
 
 refused-requires : tie.Need-refused-requires
 refused-requires c κs = search rules
 
-same_length : tie.Need-same-length
-same_length c = search rules
+shape_of-send-then-n-ne0 : tie.Need-shape_of-send-then-n-ne0
+shape_of-send-then-n-ne0 c = search rules
 
-same-length-2 : tie.Need-same-length-2
-same-length-2 c = search rules
+shape_of-receive-then-n-ne0 : tie.Need-shape_of-receive-then-n-ne0
+shape_of-receive-then-n-ne0 c = search rules
 
-same-length-3 : tie.Need-same-length-3
-same-length-3 c = search rules
+shape_of-pool-then-n-ne0 : tie.Need-shape_of-pool-then-n-ne0
+shape_of-pool-then-n-ne0 c = search rules
 
-returns : tie.Need-returns
-returns c =
-    let f = c.before.before in
-    let b = start f in
-    refused_by_front (desk b) _ f.slot-refusal.result (slot_number words (desk b) b.args.slot) (own_number words (desk b) b.args.slot) c.before.if1.true f.slot-refusal.ensures c.refused.ensures ∙ receive_as words (desk b) b.args.slot
+returns-then-n-ne0 : tie.Need-returns-then-n-ne0
+returns-then-n-ne0 c =
+    refused_by_front (desk c.before.before.before.before.before.before.before) _ c.slot_refusal-n.result (slot_number words (desk c.before.before.before.before.before.before.before) c.args.slot) (own_number words (desk c.before.before.before.before.before.before.before) c.args.slot) c.if-n-ne0.true c.slot_refusal-n.ensures c.refused.ensures ∙ receive_as words (desk c.before.before.before.before.before.before.before) c.args.slot
 
 -- 1, 2, 3, 8 are not given
-passed : (c : tie.Else1) → let b = start c.before in slot_number words (desk b) b.args.slot ≡ 0
-passed c = sym c.before.slot-refusal.ensures ∙ c.if1.false
+passed : (c : tie.Else-n-ne0) → slot_number words (desk c.before.before.before.before.before.before) c.args.slot ≡ 0
+passed c = sym c.slot_refusal-n.ensures ∙ c.if-n-ne0.false
 
 -- the slot holds a message
-full : (c : tie.Else1) → let b = start c.before in Full words (desk b) b.args.slot
-full c = let b = start c.before in slot_full words (desk b) b.args.slot words_laws (passed c)
+full : (c : tie.Else-n-ne0) → Full words (desk c.before.before.before.before.before.before) c.args.slot
+full c = slot_full words (desk c.before.before.before.before.before.before) c.args.slot words_laws (passed c)
 
-in_pool : (c : tie.Else1) → let a = (start c.before).args in a.slot < slots_of 5 a.pool.now
+in_pool : (c : tie.Else-n-ne0) → let a = c.args in a.slot < slots_of 5 a.pool.now
 in_pool c = (full c).in_pool
 
--- from the receiver back to the first tests
-abbrev tested : tie.After-receiver → tie.Else1
-tested c = c.before.before.before.before
-
-known : (c : tie.After-receiver) → Ready (desk (start (tested c).before)) c.receiver.result c.before.pointer-of.result
+known : (c : tie.After-receiver-site) → Ready (desk c.before.before.before.before.before.before.before.before.before) c.receiver-site.result c.pointer_of-pointer.result
 known c =
-    let b = start (tested c).before in
-    ready_message (desk b) b.args.slot (full (tested c)) c.before.before.read-slot.ensures c.receiver.ensures c.before.pointer-of.ensures
+    ready_message (desk c.before.before.before.before.before.before.before.before.before) c.args.slot (full c.before.before.before) c.read_slot-m.ensures c.receiver-site.ensures c.pointer_of-pointer.ensures
 
 -- the receiver's place
-in_send : (c : tie.After-place-of) → c.place_of.result < length (start (tested c.before).before).args.send.now
-in_send c = rw c.place_of.ensures (known c.before).in_send
-
--- from what is decided back to the place
-abbrev place_of : tie.After-decide → tie.After-place-of
-place_of c = c.before.before.before.before.before.before.before
+in_send : (c : tie.After-place_of-at) → c.place_of-at.result < length c.args.send.now
+in_send c = rw c.place_of-at.ensures (known c.before).in_send
 
 -- 9 and the message's own, of the desk
-own : (c : tie.After-decide) → let b = start (tested (place_of c).before).before in c.decide.result.number ≡ own_number words (desk b) b.args.slot
+own : (c : tie.After-decide-e) → c.decide-e.result.number ≡ own_number words (desk c.before.before.before.before.before.before.before.before.before.before.before.before.before.before.before.before) c.args.slot
 own c =
-    let o = place_of c in
-    let r = o.before in
-    let b = start (tested r).before in
-    own_by word_cells held_slots (desk b) b.args.slot r.before.before.read-slot.ensures r.receiver.ensures r.before.pointer-of.ensures o.place_of.ensures
-    _ (c.before.before.before.before.before.held-refusal.ensures ∙ ap (held_refusal (slots_of 5 b.args.pool.now) (message_at 5 b.args.pool.now)) r.before.before.read-slot.ensures) c.decide.ensures
+    own_by word_cells held_slots (desk c.before.before.before.before.before.before.before.before.before.before.before.before.before.before.before.before) c.args.slot c.read_slot-m.ensures c.receiver-site.ensures c.pointer_of-pointer.ensures c.place_of-at.ensures
+    _ (c.held_refusal-early.ensures ∙ ap (held_refusal (slots_of 5 c.args.pool.now) (message_at 5 c.args.pool.now)) c.read_slot-m.ensures) c.decide-e.ensures
 
-read-slot-requires : tie.Need-read-slot-requires
-read-slot-requires c κs = omega (arith, in_pool c.before)
+read_slot-m-requires : tie.Need-read_slot-m-requires
+read_slot-m-requires c κs = omega (arith, in_pool c)
 
-pointer-of-requires : tie.Need-pointer-of-requires
-pointer-of-requires c κs = search rules
+pointer_of-pointer-requires : tie.Need-pointer_of-pointer-requires
+pointer_of-pointer-requires c κs = search rules
 
-receiver-requires : tie.Need-receiver-requires
-receiver-requires c κs = search rules
+receiver-site-requires : tie.Need-receiver-site-requires
+receiver-site-requires c κs = search rules
 
-place-of-requires : tie.Need-place-of-requires
-place-of-requires c κs = (known c).few_pointers
+place_of-at-requires : tie.Need-place_of-at-requires
+place_of-at-requires c κs = (known c).few_pointers
 
-held-refusal-requires : tie.Need-held-refusal-requires
-held-refusal-requires c κs = search rules
+held_refusal-early-requires : tie.Need-held_refusal-early-requires
+held_refusal-early-requires c κs = search rules
 
-cast-p : tie.Need-overflow-cast-p
-cast-p c = search rules
+overflow_cast-p : tie.Need-overflow_cast-p
+overflow_cast-p c = search rules
 
-mul-word : tie.Need-overflow-mul-word
-mul-word c = search rules
+offset_bounds-receive-p : tie.Need-offset_bounds-receive-p
+offset_bounds-receive-p c = search rules
 
-slice-read-word : tie.Need-slice-read-word
-slice-read-word c = (known c.before.before.before.before).in_receive
+bounds-receive-p : tie.Need-bounds-receive-p
+bounds-receive-p c = (known c.before.before.before).in_receive
 
-shared-slice-read-decide : tie.Need-shared-slice-read-decide
-shared-slice-read-decide c = (known c.before.before.before.before.before).a_pointer
+bounds-owners-p : tie.Need-bounds-owners-p
+bounds-owners-p c = (known c.before.before.before.before).a_pointer
 
-bit-of-requires : tie.Need-bit-of-requires
-bit-of-requires c κs = let k = known c.before.before.before.before.before in omega (arith, k.a_site, k.few_sites)
+bit_of-requires : tie.Need-bit_of-requires
+bit_of-requires c κs = let k = known c.before.before.before.before in omega (arith, k.a_site, k.few_sites)
 
-mul-decide : tie.Need-overflow-mul-decide
-mul-decide c = let o = c.before.before.before.before.before in omega (arith, in_send o, (start (tested o.before).before).well_formed)
+offset_bounds-send-at : tie.Need-offset_bounds-send-at
+offset_bounds-send-at c = omega (arith, in_send c.before.before.before.before, c.well_formed)
 
-slice-read-decide : tie.Need-slice-read-decide
-slice-read-decide c = in_send c.before.before.before.before.before.before
+bounds-send-at : tie.Need-bounds-send-at
+bounds-send-at c = in_send c.before.before.before.before.before
 
-decide-requires : tie.Need-decide-requires
-decide-requires c κs = search rules
+decide-e-requires : tie.Need-decide-e-requires
+decide-e-requires c κs = search rules
 
-refused-requires-2 : tie.Need-refused-requires-2
-refused-requires-2 c κs = search rules
+refused-requires-then-e-ne0 : tie.Need-refused-requires-then-e-ne0
+refused-requires-then-e-ne0 c κs = search rules
 
-same-length-4 : tie.Need-same-length-4
-same-length-4 c = search rules
+shape_of-send-then-e-ne0 : tie.Need-shape_of-send-then-e-ne0
+shape_of-send-then-e-ne0 c = search rules
 
-same-length-5 : tie.Need-same-length-5
-same-length-5 c = search rules
+shape_of-receive-then-e-ne0 : tie.Need-shape_of-receive-then-e-ne0
+shape_of-receive-then-e-ne0 c = search rules
 
-same-length-6 : tie.Need-same-length-6
-same-length-6 c = search rules
+shape_of-pool-then-e-ne0 : tie.Need-shape_of-pool-then-e-ne0
+shape_of-pool-then-e-ne0 c = search rules
 
-returns-2 : tie.Need-returns-2
-returns-2 c =
-    let k = c.before.before.before in
-    let t = tested (place_of k).before in
-    let b = start t.before in
-    refused_by_own (desk b) _ k.decide.result.number _ _ (passed t) c.before.if2.true (own k) c.refused2.ensures ∙ receive_as words (desk b) b.args.slot
+returns-then-e-ne0 : tie.Need-returns-then-e-ne0
+returns-then-e-ne0 c =
+    refused_by_own (desk c.before.before.before.before.before.before.before.before.before.before.before.before.before.before.before.before.before.before.before) _ c.decide-e.result.number _ _ (passed c.before.before.before.before.before.before.before.before.before.before.before.before.before) c.if-e-ne0.true (own c.before.before.before) c.refused-then-e-ne0.ensures ∙ receive_as words (desk c.before.before.before.before.before.before.before.before.before.before.before.before.before.before.before.before.before.before.before) c.args.slot
 
-mul-send : tie.Need-overflow-mul-send
-mul-send c = let o = place_of c.before.before in omega (arith, in_send o, (start (tested o.before).before).well_formed)
+offset_bounds-send-at-2 : tie.Need-offset_bounds-send-at-2
+offset_bounds-send-at-2 c = omega (arith, in_send c.before.before.before.before.before.before.before.before, c.well_formed)
 
-slice-write-send : tie.Need-slice-write-send
-slice-write-send c = in_send (place_of c.before.before)
+bounds-send-at-2 : tie.Need-bounds-send-at-2
+bounds-send-at-2 c = in_send c.before.before.before.before.before.before.before.before
 
-with-bit-requires : tie.Need-with-bit-requires
-with-bit-requires c κs =
-    let k = c.before.before in
-    let o = place_of k in
-    let r = o.before in
-    let a = (start (tested r).before).args in (
-      omega (arith, (known r).a_site, (known r).few_sites),
-      decided_bit _ _ r.before.before.read-slot.result (get_or a.owners.now r.before.pointer-of.result 0) _ (get_or a.send.now o.place_of.result 0)
-          k.before.before.before.before.before.held-refusal.result k.before.before.bit-of.ensures k.decide.ensures c.if2.false,
+with_bit-requires : tie.Need-with_bit-requires
+with_bit-requires c κs =
+    let a = c.args in (
+      omega (arith, (known c.before.before.before.before.before.before.before.before.before).a_site, (known c.before.before.before.before.before.before.before.before.before).few_sites),
+      decided_bit _ _ c.read_slot-m.result (get_or a.owners.now c.pointer_of-pointer.result 0) _ (get_or a.send.now c.place_of-at.result 0)
+          c.held_refusal-early.result c.bit_of.ensures c.decide-e.ensures c.if-e-ne0.false,
     )
 
-mul-receive : tie.Need-overflow-mul-receive
-mul-receive c = search rules
+offset_bounds-receive-p-2 : tie.Need-offset_bounds-receive-p-2
+offset_bounds-receive-p-2 c = search rules
 
-slice-write-receive : tie.Need-slice-write-receive
-slice-write-receive c = (known (place_of c.before.before.before).before).in_receive
+bounds-receive-p-2 : tie.Need-bounds-receive-p-2
+bounds-receive-p-2 c = (known c.before.before.before.before.before.before.before.before.before.before).in_receive
 
-write-slot-requires : tie.Need-write-slot-requires
-write-slot-requires c κs = omega (arith, in_pool (tested (place_of c.before.before.before.before).before))
+write_slot-requires : tie.Need-write_slot-requires
+write_slot-requires c κs = omega (arith, in_pool c.before.before.before.before.before.before.before.before.before.before.before.before.before.before)
 
 accepted-requires : tie.Need-accepted-requires
 accepted-requires c κs = search rules
 
-same-length-7 : tie.Need-same-length-7
-same-length-7 c = search rules
+shape_of-send : tie.Need-shape_of-send
+shape_of-send c = search rules
 
-same-length-8 : tie.Need-same-length-8
-same-length-8 c = search rules
+shape_of-receive : tie.Need-shape_of-receive
+shape_of-receive c = search rules
 
-same-length-9 : tie.Need-same-length-9
-same-length-9 c = search rules
+shape_of-pool : tie.Need-shape_of-pool
+shape_of-pool c = search rules
 
-returns-3 : tie.Need-returns-3
-returns-3 c =
-    let w = c.before.before.before in
-    let e = w.before.before.before in
-    let k = e.before.before in
-    let o = place_of k in
-    let r = o.before in
-    let t = tested r in
-    let b = start t.before in
-    received_by word_cells held_slots (desk b) b.args.slot r.before.before.read-slot.ensures r.receiver.ensures r.before.pointer-of.ensures o.place_of.ensures
-    k.before.before.before.before.before.held-refusal.result k.before.before.bit-of.ensures k.decide.ensures e.if2.false c.accepted.ensures
-    (ap (λ (word : ℕ). set b.args.receive.now r.before.pointer-of.result word) w.before.before.with-bit.ensures) w.write-slot.ensures
-    ∙ accepted_by_both (desk b) _ _ _ (passed t) (sym (own k) ∙ e.if2.false)
-    ∙ receive_as words (desk b) b.args.slot
+returns : tie.Need-returns
+returns c =
+    received_by word_cells held_slots (desk c.before.before.before.before.before.before.before.before.before.before.before.before.before.before.before.before.before.before.before.before.before.before.before.before) c.args.slot c.read_slot-m.ensures c.receiver-site.ensures c.pointer_of-pointer.ensures c.place_of-at.ensures
+    c.held_refusal-early.result c.bit_of.ensures c.decide-e.ensures c.if-e-ne0.false c.accepted.ensures
+    (ap (λ (word : ℕ). set c.args.receive.now c.pointer_of-pointer.result word) c.with_bit.ensures) c.write_slot.ensures
+    ∙ accepted_by_both (desk c.before.before.before.before.before.before.before.before.before.before.before.before.before.before.before.before.before.before.before.before.before.before.before.before) _ _ _ (passed c.before.before.before.before.before.before.before.before.before.before.before.before.before.before.before.before.before.before) (sym (own c.before.before.before.before.before.before.before.before) ∙ c.if-e-ne0.false)
+    ∙ receive_as words (desk c.before.before.before.before.before.before.before.before.before.before.before.before.before.before.before.before.before.before.before.before.before.before.before.before) c.args.slot
 
 pub receive_spec : {M : Type 1} → statement M
 receive_spec =
     tie.close
-    (tie.spec
-    slot-refusal-requires
-    refused-requires
-    same_length
-    same-length-2
-    same-length-3
-    returns
-    read-slot-requires
-    pointer-of-requires
-    receiver-requires
-    cast-p
-    place-of-requires
-    held-refusal-requires
-    mul-word
-    slice-read-word
-    shared-slice-read-decide
-    bit-of-requires
-    mul-decide
-    slice-read-decide
-    decide-requires
-    refused-requires-2
-    same-length-4
-    same-length-5
-    same-length-6
-    returns-2
-    mul-send
-    slice-write-send
-    with-bit-requires
-    mul-receive
-    slice-write-receive
-    write-slot-requires
-    accepted-requires
-    same-length-7
-    same-length-8
-    same-length-9
-    returns-3)
+    (tie.spec slot_refusal-n-requires refused-requires shape_of-send-then-n-ne0 shape_of-receive-then-n-ne0 shape_of-pool-then-n-ne0 returns-then-n-ne0 read_slot-m-requires pointer_of-pointer-requires receiver-site-requires overflow_cast-p place_of-at-requires held_refusal-early-requires offset_bounds-receive-p bounds-receive-p bounds-owners-p bit_of-requires offset_bounds-send-at bounds-send-at decide-e-requires refused-requires-then-e-ne0 shape_of-send-then-e-ne0 shape_of-receive-then-e-ne0 shape_of-pool-then-e-ne0 returns-then-e-ne0 offset_bounds-send-at-2 bounds-send-at-2 with_bit-requires offset_bounds-receive-p-2 bounds-receive-p-2 write_slot-requires accepted-requires shape_of-send shape_of-receive shape_of-pool returns)
