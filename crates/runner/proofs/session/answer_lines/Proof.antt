@@ -25,15 +25,15 @@ abbrev desk : tie.At-loop-read invariant_loop decreases_loop → Desk
 desk c = let a = c.args in lent a.s a.owners.now c.loop-read.send c.loop-read.receive c.loop-read.pool
 
 -- a line starts there: what it says, and the place past it
-line : (c : tie.In-Line-2 invariant_loop decreases_loop) → let text = c.args.text.now in
-    (c.loop-read.at < length text) × (c.next-1.given.0.0 ≡ read_line (line_at text c.loop-read.at)) × (c.next-1.given.0.1.0 ≡ past_at text c.loop-read.at)
-line c = line_said c.args.text.now c.loop-read.at (sym c.next_from-next.ensures ∙ c.next-1.given.1)
+line : (c : tie.In-Line invariant_loop decreases_loop) → let text = c.args.text.now in
+    (c.loop-read.at < length text) × (c.in-Line.read ≡ read_line (line_at text c.loop-read.at)) × (c.in-Line.past ≡ past_at text c.loop-read.at)
+line c = line_said c.args.text.now c.loop-read.at (sym c.next_from-next.ensures ∙ c.in-Line.is)
 
 -- its answer line fits, and the place is further on
-fits : (c : tie.In-Line-2 invariant_loop decreases_loop) → c.loop-read.end + 17 ≤ length c.loop-read.output
+fits : (c : tie.In-Line invariant_loop decreases_loop) → c.loop-read.end + 17 ≤ length c.loop-read.output
 fits c = omega (arith, (line c).0, c.loop-read.invariant.3.fits, c.loop-read.invariant.3.long, c.requires)
 
-onward : (c : tie.In-Line-2 invariant_loop decreases_loop) → let text = c.args.text.now in length text - c.next-1.given.0.1.0 < length text - c.loop-read.at
+onward : (c : tie.In-Line invariant_loop decreases_loop) → let text = c.args.text.now in length text - c.in-Line.past < length text - c.loop-read.at
 onward c = omega (arith, (line c).0, (line c).2, past_later c.args.text.now c.loop-read.at (line c).0)
 
 loop-read-init : tie.Need-loop-read-init invariant_loop decreases_loop
@@ -61,41 +61,41 @@ refused-requires : tie.Need-refused-requires invariant_loop decreases_loop
 refused-requires c κs = search rules
 
 put_answer-requires : tie.Need-put_answer-requires invariant_loop decreases_loop
-put_answer-requires c κs = omega (arith, fits c.before.before.before.before.before.before)
+put_answer-requires c κs = omega (arith, fits c.before.before.before.before)
 
 overflow_add-end : tie.Need-overflow_add-end invariant_loop decreases_loop
-overflow_add-end c = omega (arith, fits c.before.before.before.before.before.before.before.before.before, c.loop-read.invariant.3.long, c.good)
+overflow_add-end c = omega (arith, fits c.before.before.before.before.before.before.before, c.loop-read.invariant.3.long, c.well_formed)
 
 loop-read-smaller-in_default-read : tie.Need-loop-read-smaller-in_default-read invariant_loop decreases_loop
-loop-read-smaller-in_default-read c = omega (arith, onward c.before.before.before.before.before.before.before.before.before, (line c.before.before.before.before.before.before.before.before.before).0)
+loop-read-smaller-in_default-read c = omega (arith, onward c.before.before.before.before.before.before.before, (line c.before.before.before.before.before.before.before).0)
 
 loop-read-preserved-in_default-read : tie.Need-loop-read-preserved-in_default-read invariant_loop decreases_loop
 loop-read-preserved-in_default-read c =
     let text = c.args.text.now in
-    let o = refused_line (desk c.before.before.before.before.before.before.before.before.before.before.before.before) (line_at text c.loop-read.at) (line c.before.before.before.before.before.before.before.before.before).1 c.enum_told-in_default-read-1.given.1 c.refusal_in.ensures c.refused.ensures in
-    (c.loop-read.invariant.0, c.loop-read.invariant.1, c.loop-read.invariant.2, turn (desk c.before.before.before.before.before.before.before.before.before.before.before.before) text c.loop-read.at _ c.loop-read.output _ c.loop-read.end _ (line c.before.before.before.before.before.before.before.before.before).0 (line c.before.before.before.before.before.before.before.before.before).2 o c.put_answer.ensures c.loop-read.invariant.3)
+    let o = refused_line (desk c.before.before.before.before.before.before.before.before.before) (line_at text c.loop-read.at) (line c.before.before.before.before.before.before.before).1 c.in_default-read.is c.refusal_in.ensures c.refused.ensures in
+    (c.loop-read.invariant.0, c.loop-read.invariant.1, c.loop-read.invariant.2, turn (desk c.before.before.before.before.before.before.before.before.before) text c.loop-read.at _ c.loop-read.output _ c.loop-read.end _ (line c.before.before.before.before.before.before.before).0 (line c.before.before.before.before.before.before.before).2 o c.put_answer.ensures c.loop-read.invariant.3)
 
 step-answer-requires : tie.Need-step-answer-requires invariant_loop decreases_loop
 step-answer-requires c κs = search rules
 
 put_answer-requires-in-loop-read : tie.Need-put_answer-requires-in-loop-read invariant_loop decreases_loop
-put_answer-requires-in-loop-read c κs = omega (arith, fits c.before.before.before.before.before.before.before.before.before.before.before.before.before.before.before)
+put_answer-requires-in-loop-read c κs = omega (arith, fits c.before.before.before.before.before.before.before.before.before.before.before.before)
 
 overflow_add-end-in-loop-read : tie.Need-overflow_add-end-in-loop-read invariant_loop decreases_loop
-overflow_add-end-in-loop-read c = omega (arith, fits c.before.before.before.before.before.before.before.before.before.before.before.before.before.before.before.before.before.before, c.loop-read.invariant.3.long, c.good)
+overflow_add-end-in-loop-read c = omega (arith, fits c.before.before.before.before.before.before.before.before.before.before.before.before.before.before.before, c.loop-read.invariant.3.long, c.well_formed)
 
 loop-read-smaller : tie.Need-loop-read-smaller invariant_loop decreases_loop
-loop-read-smaller c = omega (arith, onward c.before.before.before.before.before.before.before.before.before.before.before.before.before.before.before.before.before.before, (line c.before.before.before.before.before.before.before.before.before.before.before.before.before.before.before.before.before.before).0)
+loop-read-smaller c = omega (arith, onward c.before.before.before.before.before.before.before.before.before.before.before.before.before.before.before, (line c.before.before.before.before.before.before.before.before.before.before.before.before.before.before.before).0)
 
 loop-read-preserved : tie.Need-loop-read-preserved invariant_loop decreases_loop
 loop-read-preserved c =
     let text = c.args.text.now in
-    let kept = c.step-answer.auto.1.1 in
-    let o = said_line (desk c.before.before.before.before.before.before.before.before.before.before.before.before.before.before.before.before.before.before.before.before.before) (line_at text c.loop-read.at) (line c.before.before.before.before.before.before.before.before.before.before.before.before.before.before.before.before.before.before).1 c.read-1.given.1 c.step-answer.ensures in (
-      kept.0 ∙ c.loop-read.invariant.0,
-      kept.1.0 ∙ c.loop-read.invariant.1,
-      kept.1.1.0 ∙ c.loop-read.invariant.2,
-      turn (desk c.before.before.before.before.before.before.before.before.before.before.before.before.before.before.before.before.before.before.before.before.before) text c.loop-read.at _ c.loop-read.output _ c.loop-read.end _ (line c.before.before.before.before.before.before.before.before.before.before.before.before.before.before.before.before.before.before).0 (line c.before.before.before.before.before.before.before.before.before.before.before.before.before.before.before.before.before.before).2 o c.put_answer-in-loop-read.ensures c.loop-read.invariant.3,
+    let kept = c.step-answer.auto in
+    let o = said_line (desk c.before.before.before.before.before.before.before.before.before.before.before.before.before.before.before.before.before) (line_at text c.loop-read.at) (line c.before.before.before.before.before.before.before.before.before.before.before.before.before.before.before).1 c.in-Said.is c.step-answer.ensures in (
+      kept.send ∙ c.loop-read.invariant.0,
+      kept.receive ∙ c.loop-read.invariant.1,
+      kept.pool ∙ c.loop-read.invariant.2,
+      turn (desk c.before.before.before.before.before.before.before.before.before.before.before.before.before.before.before.before.before) text c.loop-read.at _ c.loop-read.output _ c.loop-read.end _ (line c.before.before.before.before.before.before.before.before.before.before.before.before.before.before.before).0 (line c.before.before.before.before.before.before.before.before.before.before.before.before.before.before.before).2 o c.put_answer-in-loop-read.ensures c.loop-read.invariant.3,
     )
 
 shape_of-send : tie.Need-shape_of-send invariant_loop decreases_loop
@@ -112,8 +112,8 @@ shape_of-output c = c.loop-read.invariant.3.long
 
 returns : tie.Need-returns invariant_loop decreases_loop
 returns c =
-    none_left (desk c.before.before.before) c.args.text.now c.loop-read.at c.loop-read.output c.loop-read.end
-    (ended_said c.args.text.now c.loop-read.at (sym c.next_from-next.ensures ∙ c.enum_told-1.given.1)) c.loop-read.invariant.3
+    none_left (desk c.before.before) c.args.text.now c.loop-read.at c.loop-read.output c.loop-read.end
+    (ended_said c.args.text.now c.loop-read.at (sym c.next_from-next.ensures ∙ c.in_default.is)) c.loop-read.invariant.3
 
 pub answer_lines_spec : {M : Type 1} → statement M
 answer_lines_spec =

@@ -72,18 +72,18 @@ shape_of-output-in_default c = search rules
 returns-in_default : tie.Need-returns-in_default
 returns-in_default c =
     let a = c.args in
-    let answered = c.refused.ensures ∙ ap refused (c.number_in.ensures ∙ ap number_in c.enum_told-1.given.1) in
+    let answered = c.refused.ensures ∙ ap refused (c.number_in.ensures ∙ ap number_in c.in_default.is) in
     one_line a.output.now (refused _) (c.put_answer.ensures ∙ ap (λ (r : Answer). sets a.output.now 0 (answer_line r)) answered)
-    ∙ ap (written a.output.now) (stops_turned_down (lines_of (drop c.past_first-from.result a.input.now)) (turned_down (take c.line_end-end.result a.input.now) (sym c.read_opening-opening.ensures ∙ c.enum_told-1.given.1)) ∙ first c.before.before.before.before.before.before.before.before.before)
+    ∙ ap (written a.output.now) (stops_turned_down (lines_of (drop c.past_first-from.result a.input.now)) (turned_down (take c.line_end-end.result a.input.now) (sym c.read_opening-opening.ensures ∙ c.in_default.is)) ∙ first c.before.before.before.before.before.before.before.before)
 
 slice_bounds-with_tables-end : tie.Need-slice_bounds-with_tables-end
-slice_bounds-with_tables-end c = line_long c.before.before.before.before
+slice_bounds-with_tables-end c = line_long c.before.before
 
 slice_bounds-with_tables-count : tie.Need-slice_bounds-with_tables-count
-slice_bounds-with_tables-count c = omega (arith, within c.before.before.before.before, past c.before.before.before.before)
+slice_bounds-with_tables-count c = omega (arith, within c.before.before, past c.before.before)
 
 slice_bounds-with_tables-start : tie.Need-slice_bounds-with_tables-start
-slice_bounds-with_tables-start c = omega (arith, within c.before.before.before.before, past c.before.before.before.before)
+slice_bounds-with_tables-start c = omega (arith, within c.before.before, past c.before.before)
 
 slice_bounds-with_tables-end-2 : tie.Need-slice_bounds-with_tables-end-2
 slice_bounds-with_tables-end-2 c = search rules
@@ -91,7 +91,7 @@ slice_bounds-with_tables-end-2 c = search rules
 with_tables-requires : tie.Need-with_tables-requires
 with_tables-requires c κs =
     let t = c.args.input.now in
-    (opens (take c.line_end-end.result t) (sym c.read_opening-opening.ensures ∙ c.opening-1.given.1), omega (arith, past c.before.before.before.before.before.before, c.requires, length-drop c.past_first-from.result t))
+    (opens (take c.line_end-end.result t) (sym c.read_opening-opening.ensures ∙ c.in-Asks.is), omega (arith, past c.before.before.before.before, c.requires, length-drop c.past_first-from.result t))
 
 shape_of-output : tie.Need-shape_of-output
 shape_of-output c = search rules
@@ -100,11 +100,11 @@ returns : tie.Need-returns
 returns c =
     let a = c.args in
     let line = take c.line_end-end.result a.input.now in
-    let asked = opens line (sym c.read_opening-opening.ensures ∙ c.opening-1.given.1) in
+    let asked = opens line (sym c.read_opening-opening.ensures ∙ c.in-Asks.is) in
     c.with_tables.ensures
-    ∙ ap (λ (rest : List ℕ). written a.output.now (begun (open_desk flat (fresh c.opening-1.given.0.0 (owners_in line) c.opening-1.given.0.1.0)) (lines_of rest))) (rest_whole c.before.before.before.before.before.before.before.before.before)
+    ∙ ap (λ (rest : List ℕ). written a.output.now (begun (open_desk flat (fresh c.in-Asks.s (owners_in line) c.in-Asks.slots)) (lines_of rest))) (rest_whole c.before.before.before.before.before.before.before)
     ∙ ap (λ (x : Outcome Desk). written a.output.now (begun x (lines_of (drop c.past_first-from.result a.input.now)))) (opens_fresh line asked)
-    ∙ ap (written a.output.now) (first c.before.before.before.before.before.before.before.before.before)
+    ∙ ap (written a.output.now) (first c.before.before.before.before.before.before.before)
 
 pub begin_spec : {M : Type 1} → statement M
 begin_spec =

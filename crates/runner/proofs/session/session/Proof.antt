@@ -15,7 +15,7 @@ use Rattle.runner.proofs.session.session.Tie as tie
 
 -- the owners that are filled are the line's
 owners_said : (c : tie.After-open_desk-answer) → let a = c.args in
-    open_desk flat (lent a.s c.fill-owners.new.1.0 a.send.now a.receive.now a.pool.now) ≡ open_desk flat (lent a.s (owners_in a.line.now) a.send.now a.receive.now a.pool.now)
+    open_desk flat (lent a.s c.fill_owners.new.owners a.send.now a.receive.now a.pool.now) ≡ open_desk flat (lent a.s (owners_in a.line.now) a.send.now a.receive.now a.pool.now)
 owners_said c = let a = c.args in ap (λ (l : List ℕ). open_desk flat (lent a.s l a.send.now a.receive.now a.pool.now)) c.fill_owners.ensures
 
 fill_owners-requires : tie.Need-fill_owners-requires
