@@ -1,24 +1,49 @@
 // The program `desk` (Document 01, Lines): all of standard input in, its transcript out.
 #![tactic(auto)]
 
-use libc::{STDERR_FILENO, STDIN_FILENO, STDOUT_FILENO};
+ghost use Rattle.std.specs.Prelude.{◌≡◌, ◌≤◌, length};
 
-// Where nothing came: whether the input can be read at all is asked by a read of no bytes, and told if not.
-fn tell_unreadable() {
-    let mut none = [0u8; 0];
-    if libc::read(STDIN_FILENO, &mut none) < 0 {
-        io::write_all(STDERR_FILENO, b"desk: the input cannot be read\n");
+use std::io::{self, Read, Write};
+
+// Where nothing came since the input cannot be read at all; that the message cannot be written is told to nobody.
+fn tell_unreadable(rt: &impl Eprint) {
+    match eprintln!(rt; "desk: the input cannot be read") {
+        Ok(()) | Err(_) => {}
     }
 }
 
-// 8,193 bytes tell that an input is too long; a read that fails ends the input, and a reader that goes away the writing.
-fn main() {
+// How many bytes of the input there are, as far as the buffer has room; a read that fails ends the input.
+fn read_full(rt: &HostRuntime, buffer: &mut [u8]) -> usize
+    ensures within { result ≤ length buffer.new }
+    ensures same_length { length buffer.new ≡ length buffer.old }
+{
+    let mut input = rt.stdin();
+    let mut n = 0;
+    while n < buffer.len() {
+        let count = match input.read(&mut buffer[n..]) {
+            Ok(count) => count,
+            Err(_) => {
+                if n == 0 {
+                    tell_unreadable(rt);
+                }
+                break;
+            }
+        };
+        if count == 0 {
+            break;
+        }
+        n += count;
+    }
+    n
+}
+
+// 8,193 bytes tell that an input is too long; a reader that goes away ends the writing.
+fn main(rt: HostRuntime) {
     let mut input = [0u8; 8193];
     let mut output = [0u8; 139264];
-    let n = io::read_full(STDIN_FILENO, &mut input);
-    if n == 0 {
-        tell_unreadable();
-    }
+    let n = read_full(&rt, &mut input);
     let m = runner::run(&input[..n], &mut output);
-    io::write_all(STDOUT_FILENO, &output[..m]);
+    match io::writer(&rt).write_all(&output[..m]) {
+        Ok(()) | Err(_) => {}
+    }
 }

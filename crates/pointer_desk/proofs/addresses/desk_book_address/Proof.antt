@@ -6,43 +6,31 @@ use Rattle.pointer_desk.proofs.EntryLaws.{part_refused, part_inside, part_given_
 use Rattle.pointer_desk.proofs.addresses.desk_book_address.Statement.{statement}
 use Rattle.pointer_desk.proofs.addresses.desk_book_address.Tie as tie
 
-abbrev start : tie.After-address → tie.Start
-start c = c.before.before.before
+address-length-requires : tie.Need-address-length-requires
+address-length-requires c κs = search rules
 
-address-requires : tie.Need-address-requires
-address-requires c κs = search rules
+address_number-requires : tie.Need-address_number-requires
+address_number-requires c κs = search rules
 
-address-number-requires : tie.Need-address-number-requires
-address-number-requires c κs = search rules
+returns-then-length-eq0 : tie.Need-returns-then-length-eq0
+returns-then-length-eq0 c =
+    let a = c.args in
+    part_refused a.sites a.owners.now (seen a.book) a.pointer c.address-length.ensures c.if-length-eq0.true c.address_number.ensures
+
+entry_place-entry-requires : tie.Need-entry_place-entry-requires
+entry_place-entry-requires c κs = search rules
+
+overflow_add-result : tie.Need-overflow_add-result
+overflow_add-result c =
+    let a = c.args in
+    omega (arith, part_inside a.sites a.owners.now (seen a.book) a.pointer c.address-length.ensures c.if-length-eq0.false c.entry_IsPlace.ensures)
 
 returns : tie.Need-returns
 returns c =
-    let h = c.before.before in
-    let a = (start h).args in
-    part_refused a.sites a.owners.now (seen a.book) a.pointer h.address.ensures c.before.if1.true c.address-number.ensures
-
-entry-place-requires : tie.Need-entry-place-requires
-entry-place-requires c κs = search rules
-
-add-t10 : tie.Need-overflow-add-t10
-add-t10 c =
-    let h = c.before.before in
-    let a = (start h).args in
-    omega (arith, part_inside a.sites a.owners.now (seen a.book) a.pointer h.address.ensures c.before.if1.false c.entry_IsPlace.ensures)
-
-returns-2 : tie.Need-returns-2
-returns-2 c =
-    let h = c.before.before in
-    let a = (start h).args in
-    part_given_lem a.sites a.owners.now (seen a.book) a.pointer h.address.ensures c.before.if1.false c.entry_IsPlace.ensures
+    let a = c.args in
+    part_given_lem a.sites a.owners.now (seen a.book) a.pointer c.address-length.ensures c.if-length-eq0.false c.entry_IsPlace.ensures
 
 pub desk_book_address_spec : {M : Type 1} → statement M
 desk_book_address_spec =
     tie.close
-    (tie.spec
-    address-requires
-    address-number-requires
-    returns
-    entry-place-requires
-    add-t10
-    returns-2)
+    (tie.spec address-length-requires address_number-requires returns-then-length-eq0 entry_place-entry-requires overflow_add-result returns)

@@ -10,38 +10,28 @@ abbrev desk : tie.Start → OrderedDesk
 desk c =
     lent_in_order c.args.sites c.args.owners.now c.args.send.now c.args.receive.now c.args.pool.now c.args.posts.now c.args.takes.now
 
+returns-then-sheet-ne192 : tie.Need-returns-then-sheet-ne192
+returns-then-sheet-ne192 c =
+    sheet_kept ordered (desk c.before.before.before.before.before.before.before.before) c.args.pointer c.args.sheet.now c.if-sheet-ne192.true
+
+sheet_number-number-requires : tie.Need-sheet_number-number-requires
+sheet_number-number-requires c κs = search rules
+
+sheet_by-rows-requires : tie.Need-sheet_by-rows-requires
+sheet_by-rows-requires c κs = c.sheet_number-number.ensures
+
+write_sheet-requires : tie.Need-write_sheet-requires
+write_sheet-requires c κs = search rules
+
+shape_of-sheet : tie.Need-shape_of-sheet
+shape_of-sheet c = search rules
+
 returns : tie.Need-returns
 returns c =
-    let s = c.before.before.before.before.before.before.before.before in
-    sheet_kept ordered (desk s) s.args.pointer s.args.sheet.now c.if1.true
-
-sheet-number-requires : tie.Need-sheet-number-requires
-sheet-number-requires c κs = search rules
-
-sheet-by-requires : tie.Need-sheet-by-requires
-sheet-by-requires c κs = c.sheet_number_lem.ensures
-
-write-sheet-requires : tie.Need-write-sheet-requires
-write-sheet-requires c κs = search rules
-
-same_length : tie.Need-same-length
-same_length c = search rules
-
-returns-2 : tie.Need-returns-2
-returns-2 c =
-    let written = c.before.before.write-sheet in
-    let given = c.before.before.before.before.before in
-    let asked = given.before in
-    let s = asked.before.before.before.before.before.before.before.before.before in
-    sheet_written ordered (desk s) s.args.pointer s.args.sheet.now asked.before.if1.false asked.sheet_number_lem.ensures given.sheet-by.ensures written.ensures
+    let written = c.write_sheet in
+    sheet_written ordered (desk c.before.before.before.before.before.before.before.before.before.before.before.before.before.before.before) c.args.pointer c.args.sheet.now c.if-sheet-ne192.false c.sheet_number-number.ensures c.sheet-by.ensures written.ensures
 
 pub desk_ordered_sheet_spec : {M : Type 1} → statement M
 desk_ordered_sheet_spec =
     tie.close
-    (tie.spec
-    returns
-    sheet-number-requires
-    sheet-by-requires
-    write-sheet-requires
-    same_length
-    returns-2)
+    (tie.spec returns-then-sheet-ne192 sheet_number-number-requires sheet_by-rows-requires write_sheet-requires shape_of-sheet returns)
