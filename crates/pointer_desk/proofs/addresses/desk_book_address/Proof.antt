@@ -23,12 +23,12 @@ entry_place-entry-requires c κs = search rules
 overflow_add-result : tie.Need-overflow_add-result
 overflow_add-result c =
     let a = c.args in
-    omega (arith, part_inside a.sites a.owners.now (seen a.book) a.pointer c.address-length.ensures c.if-length-eq0.false c.entry_IsPlace.ensures)
+    omega (arith, part_inside a.sites a.owners.now (seen a.book) a.pointer c.address-length.ensures c.if-length-eq0.false c.entry_place-entry.ensures)
 
 returns : tie.Need-returns
 returns c =
     let a = c.args in
-    part_given_lem a.sites a.owners.now (seen a.book) a.pointer c.address-length.ensures c.if-length-eq0.false c.entry_IsPlace.ensures
+    part_given_lem a.sites a.owners.now (seen a.book) a.pointer c.address-length.ensures c.if-length-eq0.false c.entry_place-entry.ensures
 
 pub desk_book_address_spec : {M : Type 1} → statement M
 desk_book_address_spec =

@@ -27,8 +27,7 @@ shape_of-sheet c = search rules
 
 returns : tie.Need-returns
 returns c =
-    let written = c.write_sheet in
-    sheet_written words (desk c.before.before.before.before.before.before.before.before.before.before.before.before.before) c.args.pointer c.args.sheet.now c.if-sheet-ne192.false c.sheet_number-number.ensures c.sheet-by.ensures written.ensures
+    sheet_written words (desk c.before.before.before.before.before.before.before.before.before.before.before.before.before) c.args.pointer c.args.sheet.now c.if-sheet-ne192.false c.sheet_number-number.ensures c.sheet_by-rows.ensures c.write_sheet.ensures
 
 pub desk_words_sheet_spec : {M : Type 1} → statement M
 desk_words_sheet_spec =
