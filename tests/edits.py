@@ -1,4 +1,5 @@
 """Wrong edits, tried on a copy of the repository by `rt must-fail` and `rt check`; for the tests that ask whether, and where, the prover refuses each."""
+import fcntl
 import glob
 import os
 import re
@@ -29,12 +30,14 @@ def linked(one, other):
 
 
 def copied(room, kind):
-    """The crates as they stand, with what was proved of them; as their must-fail edits those of this folder."""
+    """The crates as they stand, with what was proved of them, each while no other command works in it; as their must-fail edits those of this folder."""
     shutil.copy(os.path.join(ROOT, 'crates.txt'), room)
     if os.path.exists(os.path.join(ROOT, 'HANDLES')):
         shutil.copy(os.path.join(ROOT, 'HANDLES'), room)
     for crate in sorted(os.listdir(os.path.join(ROOT, 'crates'))):
         own, to = os.path.join(ROOT, 'crates', crate), os.path.join(room, 'crates', crate)
+        working = os.open(own, os.O_RDONLY)
+        fcntl.flock(working, fcntl.LOCK_SH)
         for part in ('src', 'specs', 'proofs'):
             if os.path.isdir(os.path.join(own, part)):
                 shutil.copytree(os.path.join(own, part), os.path.join(to, part))
@@ -43,6 +46,7 @@ def copied(room, kind):
                 shutil.copytree(os.path.join(own, part), os.path.join(to, part), copy_function=linked)
         if os.path.isdir(os.path.join(own, kind)):
             shutil.copytree(os.path.join(own, kind), os.path.join(to, 'must-fail'))
+        os.close(working)
 
 
 def run(words, folder):
