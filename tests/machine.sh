@@ -1,21 +1,8 @@
-# How C is compiled for x86-64 and x86-64 programs are run on this machine; for the tests that source it.
-machine=$(uname -m)
-kit=${RATTLE_HOME:-$(dirname "$(dirname "$(readlink -f "$(command -v rt)")")")}
-tools=$kit/on/$machine/toolchain
-
-# What stands before an x86-64 program to run it: elsewhere the kit's emulator and loader, as in rt.
-x86=()
-[ "$machine" = x86_64 ] || x86=("$tools/bin/qemu-x86_64" "$tools/lib/ld-linux-x86-64.so.2" --library-path "$tools/lib")
-
-# run_x86 PROGRAM ARGS..
-run_x86() { "${x86[@]}" "$@"; }
-
-# Which compiler makes x86-64 programs here.
-compiler_name() {
-    if [ "$machine" = x86_64 ]; then echo gcc
-    elif command -v x86_64-linux-gnu-gcc >/dev/null; then echo x86_64-linux-gnu-gcc
-    else echo kit_clang; fi
-}
+# Where what the tests try stands, how it is made, and how C is compiled for it; for the tests that source this.
+kit=$(dirname "$(dirname "$(readlink -f "$(command -v rt)")")")
+tools=$kit/toolchain
+desk=crates/desk/out/desk
+built=crates/pointer_desk/out/libpointer_desk.a
 
 # The kit's clang, which has no headers of its own: those of this machine's gcc and C library.
 kit_clang() {
@@ -23,26 +10,26 @@ kit_clang() {
         -isystem "/usr/include/$(gcc -dumpmachine)" -isystem /usr/include "$@"
 }
 
-# with_kit_libc COMPILER ARGS..: linked with the kit's C library, which names functions of its loader.
+# with_kit_libc ARGS..: by the kit's clang, linked with the kit's C library, which names functions of its loader.
 with_kit_libc() {
-    local lib=$tools/lib compiler=$1
-    shift
-    [ "$compiler" != kit_clang ] || set -- --ld-path="$tools/bin/ld.lld" "$@"
-    "$compiler" -fPIE -pie -nostdlib -Wl,--allow-shlib-undefined "$lib/Scrt1.o" "$lib/crti.o" "$lib/crtbeginS.o" "$@" \
+    local lib=$tools/lib
+    kit_clang --ld-path="$tools/bin/ld.lld" -fPIE -pie -nostdlib -Wl,--allow-shlib-undefined "$lib/Scrt1.o" "$lib/crti.o" "$lib/crtbeginS.o" "$@" \
         "$lib/libc.so.6" "$lib/libc_nonshared.a" "$lib/libgcc.a" "$lib/crtendS.o" "$lib/crtn.o"
 }
 
-# compile_c SOURCES.. -o OUT
-compile_c() { if [ "$machine" = x86_64 ]; then gcc "$@"; else with_kit_libc "$(compiler_name)" "$@"; fi; }
+# The program, as `rt ci` and `rt run` leave it.
+there() { [ -x "$desk" ] || { echo "no $desk: rt run in crates/desk makes it"; return 1; }; }
 
-# Says which way this machine takes.
-say_machine() {
-    case $(compiler_name) in
-    gcc) echo "this is x86_64: C by gcc, run natively" ;;
-    kit_clang) echo "this is $machine: C by the kit's clang, run under the kit's emulator" ;;
-    *) echo "this is $machine: C by the cross compiler $(compiler_name), run under the kit's emulator" ;;
-    esac
+# All that the archive is made from, and the archive: their sums.
+made_from() {
+    { rt version && sha256sum crates.txt "$built" && find crates -path '*/out' -prune -o \( -name '*.rt' -o -name '*.antt' \) -print0 | LC_ALL=C sort -z | xargs -0 sha256sum; } 2>&1 | sha256sum
 }
 
-# library FOLDER: the proved archive, put there; one test at a time makes it.
-library() { mkdir -p target && flock target/making rt staticlib pointer_desk && cp target/staticlib/libpointer_desk.a "$1"; }
+# library FOLDER: the proved archive, put there; one test at a time makes it, where something has changed since it was made.
+library() {
+    mkdir -p target
+    (
+        flock 9
+        [ -f "$built" ] && [ "$(made_from)" = "$(cat target/archive.sum 2>/dev/null)" ] || { (cd crates/pointer_desk && rt lib) && made_from >target/archive.sum; }
+    ) 9>target/making && cp "$built" "$1"
+}

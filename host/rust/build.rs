@@ -15,12 +15,12 @@ fn folder() -> PathBuf {
     if release.join(ARCHIVE).exists() {
         return release;
     }
-    own.join("../../target/staticlib")
+    own.join("../../crates/pointer_desk/out")
 }
 
 fn has_archive(folder: &Path) {
     if !folder.join(ARCHIVE).exists() {
-        panic!("no {} in {}: `rt staticlib pointer_desk` makes it; POINTER_DESK_LIB_DIR names another folder", ARCHIVE, folder.display());
+        panic!("no {} in {}: `rt lib` in crates/pointer_desk makes it; POINTER_DESK_LIB_DIR names another folder", ARCHIVE, folder.display());
     }
 }
 

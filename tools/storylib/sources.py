@@ -62,9 +62,9 @@ def answers_of(text, path):
 
 def desk_answers(text):
     """What desk answers to an input."""
-    program = os.environ.get("DESK") or os.path.join(ROOT, "target", "bin", "desk")
+    program = os.environ.get("DESK") or os.path.join(ROOT, "crates", "desk", "out", "desk")
     if not os.path.exists(program):
-        raise Unusable("desk is not built, there is no %s: `rt check desk` builds it; or give OUT" % shown(os.path.relpath(program)))
+        raise Unusable("desk is not built, there is no %s: `rt run` in crates/desk builds it; or give OUT" % shown(os.path.relpath(program)))
     try:
         done = subprocess.run([program], input=text, stdout=subprocess.PIPE, stderr=subprocess.PIPE, timeout=60)
     except subprocess.TimeoutExpired:

@@ -79,7 +79,7 @@ def the_unusable():
             status, told, err = (tool.process if place < 4 else tool.within)(*words)
             hold((status, told, err.count("\n")) == (2, "", 1) and err.startswith("story: ") and said in err, "%s: %s %s" % (words, status, err))
         status, _, err = tool.process(path, DESK=os.path.join(room, "nothing"))
-        hold(status == 2 and "`rt check desk` builds it" in err and err.count("\n") == 1, err)
+        hold(status == 2 and "`rt run` in crates/desk builds it" in err and err.count("\n") == 1, err)
 
 
 def the_cases():

@@ -8,7 +8,7 @@ use lib.ListN.{length, get_or}
 use Rattle.model.specs.declared.Posted.TheVariants.{Nothing}
 use Rattle.model.specs.declared.Answer.{Answer}
 use Rattle.model.specs.Refusals.{NotListed}
-use Rattle.model.specs.Questions.{some, lowest}
+use Rattle.model.specs.Questions.{lowest}
 use Rattle.model.specs.Answers.{accepted, refused}
 use Rattle.model.proofs.QuestionLaws.{lowest_has, some_there, lowest_low, lowest_nowhere}
 use Rattle.book.specs.Part.{Part}

@@ -1,25 +1,24 @@
 -- Document 02, One: an accepted make copy or delete tells how many slots were empty before its post; no other answer tells a count.
 use Prim.Native.Nat.{ℕ, zero, suc, ◌+◌, ◌≤◌, ◌<◌}
-use mathlib.Core.Path.{◌≡◌, refl, sym, ap, ap₂, ◌∙◌, subst}
+use mathlib.Core.Path.{◌≡◌, refl, sym, ap, ◌∙◌, subst}
 use mathlib.Core.Logic.{◌≢◌, ◌↔◌, inl, inr}
 use mathlib.Core.Bool.{Bool, true, false, cond}
 use mathlib.Core.List.{List, [], ◌∷◌, ◌++◌}
 use native.Mathlib.Omega.{arith}
 use Rattle.model.specs.declared.Posted.{Posted}
-use Rattle.model.specs.declared.Posted.TheVariants.{Copy, Dec as Decr, IncDec, Nothing}
+use Rattle.model.specs.declared.Posted.TheVariants.{Copy, Dec as Decr, Nothing}
 use Rattle.model.specs.declared.Answer.{Answer}
 use Rattle.model.specs.declared.Call.{Call}
 use Rattle.model.specs.declared.Call.TheVariants.{MakeCopy, Receive, Delete, Ask}
 use Rattle.model.specs.Refusals.{PoolFull}
 use Rattle.model.specs.Questions.{how_many, total}
 use Rattle.model.specs.Messages.{is_nothing}
-use Rattle.model.specs.Answers.{refused, Outcome, unless}
+use Rattle.model.specs.Answers.{Outcome, unless}
 use Rattle.model.specs.Layout.{Layout}
 use Rattle.model.specs.Calls.{lent_refusal, empty_slots, lowest_empty, open_refusal, open_desk, copy_number, copied, make_copy, receive_number, received, receive, delete_number, deleted, delete, ask_number, asked, ask, step}
 use Rattle.model.specs.Laws.{Frame, with_slot, Reads, Laws}
 use Rattle.model.specs.Transcript.{answer_line}
 use Rattle.model.specs.Demands.{Row, ◌because◌, FirstOf, NoSlotEmpty, lent_rows, copy_rows_when, delete_rows_when}
-use Rattle.model.proofs.TestLaws.{true_not_false}
 use Rattle.model.proofs.PoolLaws.{total_same, total_of_zeros, term_in_total, total_with_slot}
 use Rattle.model.proofs.Exactly.{number_of_unless, copy_exactly, delete_exactly}
 use Rattle.model.proofs.Accepted.{copy_accepted, delete_accepted}

@@ -13,7 +13,7 @@ use Rattle.model.specs.declared.Posted.TheVariants.{Nothing}
 use Rattle.model.specs.declared.Call.{Call}
 use Rattle.model.specs.declared.Read.TheVariants.{Refused}
 use Rattle.model.specs.Refusals.{BadLine, TooLong, ◌when◌, ◌or_else◌}
-use Rattle.model.specs.Questions.{every, up_to}
+use Rattle.model.specs.Questions.{every}
 use Rattle.model.specs.Answers.{accepted, refused, Outcome, unless}
 use Rattle.model.specs.Calls.{open_refusal, open_desk}
 use Rattle.model.specs.Tables.{sizes_good, byte_below, all_below}

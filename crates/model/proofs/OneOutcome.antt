@@ -1,7 +1,5 @@
 -- No two outcomes meet one promise: what is equal to one value is one, and so is each part of it.
-use Prim.Native.Nat.{ℕ}
 use mathlib.Core.Path.{◌≡◌, sym, ap, ◌∙◌}
-use mathlib.Core.List.{List}
 use Rattle.model.specs.Answers.{Outcome}
 use Rattle.model.specs.Tables.{Desk}
 

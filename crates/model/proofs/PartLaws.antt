@@ -1,22 +1,19 @@
 -- A desk whose receive table and pool keep their laws is a lawful layout: owners, counters and the frame once, for every desk.
 use Prim.Native.Nat.{ℕ, zero, suc, ◌*◌, ◌≤◌, ◌<◌}
 use mathlib.Core.Path.{◌≡◌, refl}
-use mathlib.Core.Bool.{true, not, ◌&&◌}
-use mathlib.Core.List.{List}
-use native.Mathlib.Omega.{arith}
+use mathlib.Core.Bool.{true, not}
 use lib.Dec.{eqb}
-use lib.ListN.{length, get_or, set, replicate, length-set, length-replicate}
+use lib.ListN.{length, get_or, replicate, length-set, length-replicate}
 use borrow.Author.Tests.{eqb-true, eq-eqb, not-false}
 use Rattle.moreau.specs.Transformers.{assign}
 use Rattle.model.specs.declared.Posted.{Posted}
 use Rattle.model.specs.declared.Posted.TheVariants.{Nothing}
 use Rattle.model.specs.Refusals.{◌when◌}
-use Rattle.model.specs.Layout.{Layout}
 use Rattle.model.specs.Calls.{lent_refusal}
-use Rattle.model.specs.Laws.{with_slot, Inside, Reads, Laws}
+use Rattle.model.specs.Laws.{Reads, Laws}
 use Rattle.model.specs.Tables.{Lent, lent, place, sizes_good, all_below}
 use Rattle.model.specs.InWords.{Sized}
-use Rattle.model.specs.Parts.{ReceiveTable, Pool, desk_of, CellsRead, LawfulCells, PoolReads, LawfulPool}
+use Rattle.model.specs.Parts.{ReceiveTable, Pool, desk_of, LawfulCells, PoolReads, LawfulPool}
 use Rattle.model.proofs.TestLaws.{and_both, when_not, or_else_none}
 use Rattle.model.proofs.PlaceLaws.{place_inside, store_at_place}
 use Rattle.model.proofs.ShapeLaws.{byte_below_lem, sized}

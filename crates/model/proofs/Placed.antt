@@ -9,7 +9,7 @@ use Rattle.model.specs.declared.Answer.{Answer}
 use Rattle.model.specs.declared.Call.TheVariants.{MakeCopy, Receive, Delete}
 use Rattle.model.specs.Messages.{receiver, pointer_of, counter_after, cell_after, reply}
 use Rattle.model.specs.Layout.{Layout}
-use Rattle.model.specs.Calls.{lowest_empty, copy_number, copied, make_copy, counter_there, cell_there, replied, receive_number, received, receive, delete_number, deleted, delete, step}
+use Rattle.model.specs.Calls.{lowest_empty, copy_number, copied, make_copy, counter_there, cell_there, replied, receive_number, receive, delete_number, deleted, delete, step}
 use Rattle.model.specs.Laws.{with_slot, Reads, Laws}
 use Rattle.model.specs.Demands.{LowestEmpty}
 use Rattle.model.proofs.PlaceLaws.{changed_slot}

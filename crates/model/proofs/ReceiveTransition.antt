@@ -8,7 +8,7 @@ use native.Mathlib.Omega.{arith}
 use lib.Dec.{eqb}
 use borrow.Author.Tests.{eq-eqb, ne_eqb, eqb-false}
 use Rattle.moreau.specs.StateSpace.{Msg, Msg-discrete, COPY, DEC, INC_DEC, BagOf, ⟅◌⟆, Config, ◌∈◌}
-use Rattle.moreau.specs.Transformers.{if◌then◌else◌, ◌provided◌, send_T◌≔◌, rec_T◌≔◌, post, unpost, MayReceive, RECEIVE}
+use Rattle.moreau.specs.Transformers.{◌provided◌, send_T◌≔◌, rec_T◌≔◌, post, unpost, MayReceive, RECEIVE}
 use Rattle.moreau.specs.Transitions.{Guard}
 use Rattle.moreau.proofs.Bags.{one_same, one_other}
 use Rattle.model.specs.declared.Posted.{Posted}
@@ -45,15 +45,15 @@ dec_stands Nothing a b p e = absurd (omega (arith, ap (λ (M : BagOf Msg). M (DE
 
 -- ---- a COPY in Figure 9, by what its receiver holds and who sent it
 receive_held : (C : Config) (a b p : ℕ) → C.rec b p ≡ true → RECEIVE (COPY a b p) C ≡ post (DEC b a p) C
-unfolding if◌then◌else◌ ◌provided◌
+unfolding ◌provided◌
 receive_held C a b p e = rw e
 
 receive_home : (C : Config) (a b p : ℕ) → C.rec b p ≡ false → a ≡ C.owner p → RECEIVE (COPY a b p) C ≡ (rec_T (b, p) ≔ true) C
-unfolding if◌then◌else◌ ◌provided◌
+unfolding ◌provided◌
 receive_home C a b p e q = rw (e, eq-eqb a (C.owner p) q)
 
 receive_away : (C : Config) (a b p : ℕ) → C.rec b p ≡ false → a ≢ C.owner p → RECEIVE (COPY a b p) C ≡ post (INC_DEC b (C.owner p) p a) ((rec_T (b, p) ≔ true) C)
-unfolding if◌then◌else◌ ◌provided◌
+unfolding ◌provided◌
 receive_away C a b p e apart = rw (e, ne_eqb a (C.owner p) apart)
 
 module _ {D : Type 0} (L : Layout D) (W : Laws L) (d : D) where

@@ -1,7 +1,7 @@
 -- What lent tables say that pass 1 and 2, and what an opening writes.
-use Prim.Native.Nat.{ℕ, zero, suc, ◌+◌, ◌*◌, ◌≤◌, ◌<◌}
+use Prim.Native.Nat.{ℕ, zero, suc, ◌*◌, ◌≤◌, ◌<◌}
 use mathlib.Core.Path.{◌≡◌, refl, ◌∙◌}
-use mathlib.Core.Bool.{true, ◌&&◌, not}
+use mathlib.Core.Bool.{true, ◌&&◌}
 use mathlib.Core.List.{List, [], ◌∷◌, ◌++◌}
 use mathlib.Core.Logic.{⊎_elim}
 use native.Mathlib.Nat.{suc-mul, not-suc-le-zero, eq-or-lt_of_le, le_of_suc-le-suc}
@@ -9,13 +9,11 @@ use native.Mathlib.Omega.{arith}
 use lib.Dec.{eqb}
 use lib.ListN.{length, get_or, length-append, length-map, get_or-append}
 use lib.Seq.{get_or-append-add}
-use borrow.Author.Tests.{leb-true, ltb-true, eqb-true, not-false, lt-ltb}
+use borrow.Author.Tests.{leb-true, ltb-true, eqb-true, lt-ltb}
 use Rattle.model.specs.Refusals.{◌when◌}
-use Rattle.model.specs.Calls.{lent_refusal}
-use Rattle.model.specs.Tables.{place, Desk, sizes_good, pool_good, lengths_good, shape_good, all_below, all_slots_good, byte_below, own_row, own_rows}
+use Rattle.model.specs.Tables.{place, sizes_good, pool_good, lengths_good, shape_good, all_below, byte_below, own_row, own_rows}
 use Rattle.model.specs.InWords.{Sized, Shaped}
-use Rattle.model.specs.Flat.{flat}
-use Rattle.model.proofs.TestLaws.{and_both, when_not, or_else_none, at_most_1}
+use Rattle.model.proofs.TestLaws.{and_both, at_most_1}
 use Rattle.model.proofs.QuestionLaws.{every_at, every_all}
 use Rattle.model.proofs.PlaceLaws.{place_inside}
 

@@ -9,7 +9,6 @@ use lib.Dec.{eqb}
 use borrow.Author.Tests.{eq-eqb, lt-ltb}
 use Rattle.model.specs.declared.Posted.{Posted}
 use Rattle.model.specs.declared.Posted.TheVariants.{Copy, Dec as Decr, IncDec, Nothing}
-use Rattle.model.specs.Refusals.{◌when◌}
 use Rattle.model.specs.Questions.{total, up_to}
 use Rattle.model.specs.Messages.{kind_of, pointer_of}
 use Rattle.model.specs.Layout.{Layout}

@@ -2,7 +2,7 @@
 use mathlib.Core.Path.{◌≡◌, ap}
 use Rattle.model.specs.declared.Answer.{Answer}
 use Rattle.model.specs.Answers.{Outcome}
-use Rattle.pointer_desk.specs.Boundary.{Given, given_as}
+use Rattle.pointer_desk.specs.Boundary.{given_as}
 
 -- the call's equation, in a form of C
 pub in_c : {A D : Type 0} (form : Answer → A) {a : Answer} {r : A} {d : D} {o : Outcome D} → r ≡ form a → record { answer = a; desk = d } ≡ o → record { answer = r; desk = d } ≡ given_as form o

@@ -1,4 +1,6 @@
 // What a call does over numbers and messages alone, no table: refusals, replies, answers. Every desk has these rules.
+#![tactic(auto)]
+
 pub mod answer;
 pub mod effect;
 pub mod message;

@@ -1,6 +1,5 @@
 -- `address_number`: 1, 2, 18 come first, then 3.
 use mathlib.Core.Path.{sym, ◌∙◌}
-use borrow.Author.Rules.{rules}
 use Rattle.book.specs.Book.{address_number}
 use Rattle.model.proofs.TestLaws.{number_first}
 use Rattle.book.proofs.RefusalLaws.{address_beyond, address_given}

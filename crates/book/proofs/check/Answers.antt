@@ -1,7 +1,6 @@
 -- `check`: 1, 2, 18 come first, then 19.
 use mathlib.Core.Path.{refl, sym, ◌∙◌}
 use native.Mathlib.Omega.{arith}
-use borrow.Author.Rules.{rules}
 use Rattle.book.specs.Book.{check_number, check_answer}
 use Rattle.model.proofs.TestLaws.{number_first}
 use Rattle.book.proofs.AnswerLaws.{refused_answer, accepted_answer}

@@ -1,7 +1,6 @@
 -- `run` meets its promise: no room, an input that is too long, no input, or a session.
 use mathlib.Core.Path.{ap, ◌∙◌}
 use native.Mathlib.Omega.{arith}
-use borrow.Author.Rules.{rules}
 use lib.Seq.{sets}
 use Rattle.model.specs.declared.Answer.{Answer}
 use Rattle.model.specs.Answers.{refused}

@@ -1,7 +1,6 @@
 -- What stands at the bit is taken off, and n put there, within 64 bits.
 use Prim.Native.Nat.{ℕ, ◌^◌, ◌<◌}
 use mathlib.Core.Path.{sym, subst}
-use borrow.Author.Rules.{rules}
 use Rattle.word_cells.proofs.BitLaws.{bit_most, with_bit_below}
 use Rattle.bits.proofs.BitLaws.{bit_inside, put_as}
 use Rattle.bits.proofs.bit.with_bit.Goals as goal

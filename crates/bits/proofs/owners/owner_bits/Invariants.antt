@@ -1,11 +1,8 @@
 -- Word after word, each 2 to the owner.
 use Prim.Native.Nat.{◌^◌, ◌-◌}
 use mathlib.Core.List.{map}
-use native.Mathlib.Omega.{arith}
 use lib.ListN.{length}
-use Rattle.model.proofs.ShapeLaws.{byte_below_lem}
-use Rattle.tables.proofs.FillLaws.{Filled, filled_all}
-use Rattle.bits.proofs.CellLaws.{owners_none, owners_more}
+use Rattle.tables.proofs.FillLaws.{Filled}
 use Rattle.bits.proofs.owners.owner_bits.Given as goal
 
 abbrev pub invariant-loop-p : goal.invariant-loop-p

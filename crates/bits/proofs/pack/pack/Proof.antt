@@ -3,7 +3,6 @@ use mathlib.Core.Path.{◌≡◌, sym, ◌∙◌}
 use mathlib.Core.Bool.{true}
 use lib.ListN.{length}
 use borrow.Author.Rules.{rules}
-use borrow.Author.Tests.{not-true, not-false}
 use Rattle.model.specs.Tables.{all_below}
 use Rattle.word_cells.specs.WordCells.{tables_fit, packed, pack_number, pack}
 use Rattle.bits.proofs.FitLaws.{fit_sizes, fit_refused, table_refused, written_as}

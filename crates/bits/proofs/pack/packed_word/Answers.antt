@@ -1,13 +1,11 @@
 -- Site after site, each cell at its bit.
-use Prim.Native.Nat.{ℕ, ◌+◌, ◌-◌, ◌^◌, ◌≤◌, ◌<◌}
-use mathlib.Core.Path.{◌≡◌, refl, sym, ap, ◌∙◌, subst}
-use native.Mathlib.Nat.{suc-mul, mul-le-mul}
+use Prim.Native.Nat.{ℕ, ◌+◌, ◌^◌, ◌<◌}
+use mathlib.Core.Path.{refl, sym, subst}
+use native.Mathlib.Nat.{suc-mul}
 use native.Mathlib.Numerals.{add-one}
 use native.Mathlib.Omega.{arith}
 use Rattle.model.specs.Questions.{total}
-use Rattle.model.specs.Tables.{place}
-use Rattle.word_cells.specs.WordCells.{packed_word}
-use Rattle.bits.proofs.CellLaws.{cell_inside, cell_most, packed_fits, packed_more}
+use Rattle.bits.proofs.CellLaws.{cell_most, packed_fits, packed_more}
 use Rattle.bits.proofs.pack.packed_word.Goals as goal
 
 pub loop-site-init : goal.loop-site-init

@@ -1,13 +1,8 @@
 -- Site after site, each cell at its bit.
-use Prim.Native.Nat.{ℕ, ◌+◌, ◌-◌, ◌^◌, ◌≤◌, ◌<◌}
-use mathlib.Core.Path.{◌≡◌, refl, sym, ap, ◌∙◌, subst}
-use native.Mathlib.Nat.{suc-mul, mul-le-mul}
-use native.Mathlib.Numerals.{add-one}
-use native.Mathlib.Omega.{arith}
-use Rattle.model.specs.Questions.{total}
+use Prim.Native.Nat.{◌-◌, ◌≤◌}
+use mathlib.Core.Path.{◌≡◌}
 use Rattle.model.specs.Tables.{place}
 use Rattle.word_cells.specs.WordCells.{packed_word}
-use Rattle.bits.proofs.CellLaws.{cell_inside, cell_most, packed_fits, packed_more}
 use Rattle.bits.proofs.pack.packed_word.Given as goal
 
 abbrev pub invariant-loop-site : goal.invariant-loop-site

@@ -1,9 +1,5 @@
 -- Word after word, each packed from the cells of its pointer.
-use Prim.Native.Nat.{◌-◌}
 use native.Mathlib.Omega.{arith}
-use lib.ListN.{length}
-use Rattle.tables.proofs.FillLaws.{Filled, filled_all}
-use Rattle.word_cells.specs.WordCells.{packed}
 use Rattle.bits.proofs.CellLaws.{words_none, words_more}
 use Rattle.bits.proofs.pack.write_words.Goals as goal
 

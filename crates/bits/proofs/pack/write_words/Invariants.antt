@@ -1,10 +1,8 @@
 -- Word after word, each packed from the cells of its pointer.
 use Prim.Native.Nat.{◌-◌}
-use native.Mathlib.Omega.{arith}
 use lib.ListN.{length}
-use Rattle.tables.proofs.FillLaws.{Filled, filled_all}
+use Rattle.tables.proofs.FillLaws.{Filled}
 use Rattle.word_cells.specs.WordCells.{packed}
-use Rattle.bits.proofs.CellLaws.{words_none, words_more}
 use Rattle.bits.proofs.pack.write_words.Given as goal
 
 abbrev pub invariant-loop-p : goal.invariant-loop-p

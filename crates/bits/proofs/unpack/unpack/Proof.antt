@@ -3,7 +3,6 @@ use Prim.Native.Nat.{◌^◌}
 use mathlib.Core.Path.{◌≡◌, sym, ◌∙◌}
 use mathlib.Core.Bool.{true}
 use borrow.Author.Rules.{rules}
-use borrow.Author.Tests.{not-true, not-false}
 use Rattle.model.specs.Tables.{all_below}
 use Rattle.word_cells.specs.WordCells.{tables_fit, unpacked, unpack_number, unpack}
 use Rattle.bits.proofs.FitLaws.{fit_sizes, fit_refused, table_refused, written_as}

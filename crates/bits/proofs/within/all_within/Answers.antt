@@ -1,10 +1,5 @@
 -- S = 64 has no bit above; otherwise what is seen is shifted down.
-use Prim.Native.Nat.{ℕ, ◌^◌}
-use mathlib.Core.Path.{sym, ap, ◌∙◌}
-use native.Mathlib.Omega.{arith}
-use borrow.Author.Rules.{rules}
-use borrow.Author.Tests.{lt-ltb}
-use Rattle.model.specs.Tables.{all_below}
+use mathlib.Core.Path.{◌∙◌}
 use Rattle.bits.proofs.BitLaws.{shifted_off}
 use Rattle.bits.proofs.within.all_within.Goals as goal
 

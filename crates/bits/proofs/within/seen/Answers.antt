@@ -1,8 +1,7 @@
 -- What is seen so far is below a power of 2 where every word so far is.
-use Prim.Native.Nat.{ℕ, ◌-◌, ◌^◌, ◌≤◌}
-use mathlib.Core.Path.{◌≡◌, ◌∙◌}
+use Prim.Native.Nat.{◌^◌}
+use mathlib.Core.Path.{◌∙◌}
 use native.Mathlib.Omega.{arith}
-use lib.Dec.{ltb}
 use lib.ListN.{length, get_or}
 use lib.Pow.{pow_pos}
 use borrow.Author.Tests.{lt-ltb}

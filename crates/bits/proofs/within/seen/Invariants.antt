@@ -1,15 +1,10 @@
 -- What is seen so far is below a power of 2 where every word so far is.
 use Prim.Native.Nat.{ℕ, ◌-◌, ◌^◌, ◌≤◌}
-use mathlib.Core.Path.{◌≡◌, ◌∙◌}
-use native.Mathlib.Omega.{arith}
+use mathlib.Core.Path.{◌≡◌}
 use lib.Dec.{ltb}
-use lib.ListN.{length, get_or}
-use lib.Pow.{pow_pos}
-use borrow.Author.Tests.{lt-ltb}
+use lib.ListN.{length}
 use Rattle.model.specs.Questions.{every}
-use Rattle.model.specs.Tables.{byte_below, all_below}
-use Rattle.model.proofs.QuestionLaws.{every_more, every_done}
-use Rattle.bits.proofs.BitLaws.{seen_below}
+use Rattle.model.specs.Tables.{byte_below}
 use Rattle.bits.proofs.within.seen.Given as goal
 
 abbrev pub invariant-loop-i : goal.invariant-loop-i

@@ -1,12 +1,8 @@
 -- `same_bytes`: all bytes passed agree.
-use Prim.Native.Nat.{◌≤◌, ◌-◌}
-use mathlib.Core.Path.{◌≡◌, refl}
-use mathlib.Core.Bool.{true}
+use mathlib.Core.Path.{refl}
 use native.Mathlib.Omega.{arith}
 use borrow.Author.Rules.{rules}
-use lib.ListN.{length}
 use Rattle.model.specs.Questions.{every}
-use Rattle.book.specs.Book.{same_at}
 use Rattle.book.proofs.SameLaws.{same_lengths, same_differs, same_so_far, same_all}
 use Rattle.book.proofs.bytes.same_bytes.Goals as goal
 

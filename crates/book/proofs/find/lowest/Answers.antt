@@ -1,10 +1,7 @@
 -- `lowest`: the lowest from p on is the lowest of all, and the walk stands at p.
-use Prim.Native.Nat.{◌≤◌, ◌-◌}
-use mathlib.Core.Path.{◌≡◌, refl, sym, ◌∙◌}
+use mathlib.Core.Path.{refl, sym, ◌∙◌}
 use native.Mathlib.Nat.{sub-zero}
 use native.Mathlib.Omega.{arith}
-use borrow.Author.Rules.{rules}
-use Rattle.model.specs.Questions.{lowest, lowest_from}
 use Rattle.model.proofs.QuestionLaws.{lowest_here, lowest_next, lowest_none}
 use Rattle.book.specs.Walk.{walked, meets}
 use Rattle.book.proofs.EntryLaws.{walked_next}

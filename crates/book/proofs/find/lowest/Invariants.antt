@@ -1,14 +1,8 @@
 -- `lowest`: the lowest from p on is the lowest of all, and the walk stands at p.
 use Prim.Native.Nat.{◌≤◌, ◌-◌}
-use mathlib.Core.Path.{◌≡◌, refl, sym, ◌∙◌}
-use native.Mathlib.Nat.{sub-zero}
-use native.Mathlib.Omega.{arith}
-use borrow.Author.Rules.{rules}
+use mathlib.Core.Path.{◌≡◌}
 use Rattle.model.specs.Questions.{lowest, lowest_from}
-use Rattle.model.proofs.QuestionLaws.{lowest_here, lowest_next, lowest_none}
 use Rattle.book.specs.Walk.{walked, meets}
-use Rattle.book.proofs.EntryLaws.{walked_next}
-use Rattle.book.proofs.FindLaws.{meets_there}
 use Rattle.book.proofs.find.lowest.Given as goal
 
 abbrev pub invariant-loop-p : goal.invariant-loop-p

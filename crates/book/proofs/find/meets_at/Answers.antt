@@ -2,7 +2,7 @@
 use mathlib.Core.Path.{◌∙◌}
 use native.Mathlib.Omega.{arith}
 use borrow.Author.Rules.{rules}
-use borrow.Author.Tests.{eq-eqb, ne_eqb}
+use borrow.Author.Tests.{eq-eqb}
 use Rattle.book.proofs.FindLaws.{holds_not, holds_after, holds_same}
 use Rattle.book.proofs.find.meets_at.Goals as goal
 

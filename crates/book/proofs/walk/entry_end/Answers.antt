@@ -1,6 +1,4 @@
 -- `entry_end`: the tests are those of the definition; a place beyond the book's end reads 0, and an entry there would end later still.
-use native.Mathlib.Omega.{arith}
-use borrow.Author.Rules.{rules}
 use Rattle.book.specs.Walk.{entry_end}
 use Rattle.book.proofs.EntryLaws.{entry_end_beyond}
 use Rattle.book.proofs.walk.entry_end.Goals as goal

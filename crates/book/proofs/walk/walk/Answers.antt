@@ -1,8 +1,6 @@
 -- `walk`: past i entries after i turns.
-use Prim.Native.Nat.{◌≤◌, ◌-◌}
-use mathlib.Core.Path.{◌≡◌, refl}
+use mathlib.Core.Path.{refl}
 use native.Mathlib.Omega.{arith}
-use borrow.Author.Rules.{rules}
 use Rattle.book.specs.Walk.{walked}
 use Rattle.book.proofs.EntryLaws.{walked_next}
 use Rattle.book.proofs.walk.walk.Goals as goal

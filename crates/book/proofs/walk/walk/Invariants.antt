@@ -1,10 +1,7 @@
 -- `walk`: past i entries after i turns.
 use Prim.Native.Nat.{◌≤◌, ◌-◌}
-use mathlib.Core.Path.{◌≡◌, refl}
-use native.Mathlib.Omega.{arith}
-use borrow.Author.Rules.{rules}
+use mathlib.Core.Path.{◌≡◌}
 use Rattle.book.specs.Walk.{walked}
-use Rattle.book.proofs.EntryLaws.{walked_next}
 use Rattle.book.proofs.walk.walk.Given as goal
 
 abbrev pub invariant-loop-i : goal.invariant-loop-i

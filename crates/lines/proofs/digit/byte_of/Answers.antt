@@ -1,5 +1,4 @@
 -- `byte_of` meets its promise: both numbers are below 16, or not.
-use borrow.Author.Rules.{rules}
 use Rattle.model.proofs.DigitLaws.{byte_of_both, no_byte}
 use Rattle.lines.proofs.digit.byte_of.Goals as goal
 

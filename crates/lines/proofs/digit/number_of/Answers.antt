@@ -1,7 +1,6 @@
 -- `number_of` meets its promise: a law for each of the five parts that its two ranges cut.
 use mathlib.Core.Path.{sym}
 use native.Mathlib.Omega.{arith}
-use borrow.Author.Rules.{rules}
 use Rattle.model.proofs.DigitLaws.{decimal_number, letter_number, no_number_below, no_number_between, no_number_above}
 use Rattle.lines.proofs.digit.number_of.Goals as goal
 

@@ -1,10 +1,8 @@
 -- `line_end` meets its promise: while no newline stands at `end`, the line ends where the one from `end` on does.
-use mathlib.Core.Path.{◌≡◌, refl, sym, ◌∙◌}
+use mathlib.Core.Path.{◌≡◌}
 use Prim.Native.Nat.{◌-◌}
-use native.Mathlib.Omega.{arith}
 use lib.ListN.{length}
 use Rattle.model.specs.Lines.{end_at}
-use Rattle.model.proofs.LineLaws.{end_here, end_on, end_last}
 use Rattle.lines.proofs.reader.line_end.Given as goal
 
 abbrev pub invariant-loop-end : goal.invariant-loop-end

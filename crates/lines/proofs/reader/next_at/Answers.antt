@@ -1,7 +1,6 @@
 -- `next_at` meets its promise: no character is left, or a line starts there.
 use mathlib.Core.Path.{sym}
 use native.Mathlib.Omega.{arith}
-use borrow.Author.Rules.{rules}
 use Rattle.model.proofs.LineLaws.{end_most, line_there, none_there}
 use Rattle.lines.proofs.reader.next_at.Goals as goal
 

@@ -1,6 +1,5 @@
 -- `past_at` meets its promise: it goes where the reader's answer leaves it.
 use mathlib.Core.Path.{refl, sym, ap}
-use borrow.Author.Rules.{rules}
 use Rattle.model.specs.Places.{moved_to}
 use Rattle.model.proofs.LineLaws.{line_there, none_there}
 use Rattle.lines.proofs.reader.past_at.Goals as goal

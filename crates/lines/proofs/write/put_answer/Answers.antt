@@ -1,5 +1,4 @@
 -- `put_answer` meets its promise: the line of the answer's bytes.
-use borrow.Author.Rules.{rules}
 use Rattle.model.specs.Transcript.{answer_line}
 use Rattle.lines.proofs.write.put_answer.Goals as goal
 

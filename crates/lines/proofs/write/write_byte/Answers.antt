@@ -1,8 +1,5 @@
 -- `write_byte` meets its promise: two stores.
-use native.Mathlib.Omega.{arith}
 use native.Mathlib.Numerals.{add-one}
-use lib.ListN.{length-set}
-use borrow.Author.Rules.{rules}
 use Rattle.model.specs.Lines.{digits_of}
 use Rattle.lines.proofs.write.write_byte.Goals as goal
 

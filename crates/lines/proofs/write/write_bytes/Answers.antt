@@ -1,11 +1,7 @@
 -- `write_bytes` meets its promise: what is left, written at the loop's place, gives what all, written at the start, gives.
-use mathlib.Core.Path.{◌≡◌, refl, sym, ◌∙◌}
-use Prim.Native.Nat.{◌+◌, ◌-◌, ◌*◌, ◌≤◌}
+use mathlib.Core.Path.{sym, ◌∙◌}
 use native.Mathlib.Omega.{arith}
-use lib.ListN.{length, drop}
-use lib.Seq.{sets}
-use Rattle.model.specs.Lines.{digits_of}
-use Rattle.lines.proofs.StoreLaws.{digits_all, digits_more, digits_done}
+use Rattle.lines.proofs.StoreLaws.{digits_more, digits_done}
 use Rattle.lines.proofs.write.write_bytes.Goals as goal
 
 pub loop-i-preserved : goal.loop-i-preserved

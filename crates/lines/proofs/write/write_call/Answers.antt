@@ -1,6 +1,5 @@
 -- `write_call` meets its promise: a text that is too short, and one that is not.
 use native.Mathlib.Omega.{arith}
-use borrow.Author.Rules.{rules}
 use Rattle.model.specs.Lines.{line_of}
 use Rattle.lines.proofs.StoreLaws.{too_short, long_enough_lem}
 use Rattle.lines.proofs.write.write_call.Goals as goal

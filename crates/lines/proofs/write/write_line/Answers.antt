@@ -1,5 +1,4 @@
 -- `write_line` meets its promise: a newline after the digits.
-use borrow.Author.Rules.{rules}
 use Rattle.lines.proofs.StoreLaws.{newline_after}
 use Rattle.lines.proofs.write.write_line.Goals as goal
 

@@ -1,6 +1,5 @@
 -- Four slots a turn: what is counted so far is the count over the slots so far.
-use Rattle.std.proofs.Common.{◌≡◌, ◌+◌, ◌-◌, ◌*◌, ◌/◌, ◌≤◌, length, refl, arith}
-use Rattle.model.specs.Questions.{total}
+use Rattle.std.proofs.Common.{◌≡◌, ◌-◌, ◌*◌, ◌≤◌}
 use Rattle.model.specs.Tables.{message_at}
 use Rattle.slots.specs.FirstSlots.{plus_of, minus_of}
 use Rattle.numbered.proofs.count.count.Given as goal

@@ -1,7 +1,6 @@
 -- What is counted so far is the count over the slots so far.
-use Rattle.std.proofs.Common.{◌≡◌, ◌-◌, ◌≤◌, arith}
-use Rattle.model.specs.Tables.{slots_of, message_at}
-use Rattle.slots.specs.FirstSlots.{plus_of, minus_of}
+use Rattle.std.proofs.Common.{◌≡◌, arith}
+use Rattle.model.specs.Tables.{slots_of}
 use Rattle.numbered.proofs.count.count_rest.Goals as goal
 
 pub returns : goal.returns

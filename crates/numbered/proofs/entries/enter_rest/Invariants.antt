@@ -1,6 +1,6 @@
 -- The rows so far are the sheet of the slots so far.
-use Rattle.std.proofs.Common.{◌≡◌, ◌-◌, ◌≤◌, arith}
-use Rattle.model.specs.Tables.{slots_of, message_at}
+use Rattle.std.proofs.Common.{◌≡◌, ◌-◌, ◌≤◌}
+use Rattle.model.specs.Tables.{message_at}
 use Rattle.slots.specs.FirstSlots.{entries as entries_of}
 use Rattle.numbered.proofs.entries.enter_rest.Given as goal
 

@@ -1,8 +1,7 @@
 -- Four slots a turn: the rows so far are the sheet of the slots so far.
-use Rattle.std.proofs.Common.{◌≡◌, ◌+◌, ◌-◌, ◌*◌, ◌/◌, ◌≤◌, length, ◌∙◌, arith, rules}
+use Rattle.std.proofs.Common.{◌≡◌, ◌-◌, ◌*◌, ◌≤◌}
 use Rattle.model.specs.Tables.{message_at}
 use Rattle.slots.specs.FirstSlots.{entries as entries_of}
-use Rattle.slots.proofs.SheetLaws.{no_entries}
 use Rattle.numbered.proofs.entries.entries.Given as goal
 
 abbrev pub invariant-loop-t : goal.invariant-loop-t

@@ -1,9 +1,7 @@
 -- From slot t * 4 on, the lowest empty slot is the pool's.
-use Rattle.std.proofs.Common.{◌≡◌, ◌+◌, ◌-◌, ◌*◌, ◌/◌, ◌≤◌, length, arith, eq-eqb, ne_eqb}
-use native.Mathlib.Nat.{sub-zero}
+use Rattle.std.proofs.Common.{◌≡◌, ◌-◌, ◌*◌, ◌≤◌}
 use Rattle.model.specs.Questions.{lowest_from, lowest}
 use Rattle.model.specs.Tables.{slots_of, empty_at}
-use Rattle.slots.proofs.LowestLaws.{here, past_one, past_two, past_three, past_four}
 use Rattle.numbered.proofs.lowest.lowest_empty.Given as goal
 
 abbrev pub invariant-loop-t : goal.invariant-loop-t

@@ -1,7 +1,5 @@
 -- From slot i on, the lowest empty slot is the pool's.
-use Rattle.std.proofs.Common.{◌≡◌, ◌-◌, ◌≤◌, sym, ◌∙◌, arith, eq-eqb, ne_eqb}
-use Rattle.model.specs.Questions.{lowest_from, lowest}
-use Rattle.model.specs.Tables.{slots_of, empty_at}
+use Rattle.std.proofs.Common.{sym, ◌∙◌, arith, eq-eqb, ne_eqb}
 use Rattle.model.proofs.QuestionLaws.{lowest_here, lowest_next, lowest_none}
 use Rattle.numbered.proofs.lowest.lowest_from.Goals as goal
 

@@ -2,7 +2,6 @@
 use mathlib.Core.Path.{◌≡◌, sym, ◌∙◌}
 use mathlib.Core.Bool.{true}
 use borrow.Author.Rules.{rules}
-use borrow.Author.Tests.{not-true, not-false}
 use Rattle.in_order.specs.Ordered.{OrderedDesk, lent_in_order, ordered}
 use Rattle.in_order.proofs.OrderedWords.{shape_in_words}
 use Rattle.model.proofs.OpeningLaws.{shape_refused, owners_refused, opened_as}

@@ -1,5 +1,4 @@
 -- 1, 2, 3 and nothing else.
-use borrow.Author.Rules.{rules}
 use Rattle.model.specs.Survey.{sheet_number}
 use Rattle.ordered.proofs.sheet.sheet_number.Goals as goal
 

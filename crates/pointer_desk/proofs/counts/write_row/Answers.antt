@@ -1,9 +1,7 @@
 -- Count after count, each from its row and column.
-use Prim.Native.Nat.{◌+◌, ◌*◌, ◌-◌, ◌≤◌}
+use Prim.Native.Nat.{◌+◌, ◌*◌}
 use mathlib.Core.Path.{◌≡◌}
 use native.Mathlib.Omega.{arith}
-use Rattle.tables.proofs.FillLaws.{Filled}
-use Rattle.pointer_desk.specs.Boundary.{row_by_row}
 use Rattle.pointer_desk.proofs.SheetLaws.{sheet_from, sheet_more}
 use Rattle.pointer_desk.proofs.counts.write_row.Goals as goal
 

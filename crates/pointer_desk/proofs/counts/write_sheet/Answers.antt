@@ -1,5 +1,4 @@
 -- Row after row, until all are written.
-use borrow.Author.Rules.{rules}
 use Rattle.pointer_desk.proofs.SheetLaws.{sheet_whole}
 use Rattle.pointer_desk.proofs.counts.write_sheet.Goals as goal
 

@@ -1,5 +1,4 @@
 -- Make copy's tests 4, 5, 6, 7, in that order.
-use borrow.Author.Rules.{rules}
 use Rattle.model.specs.Calls.{copy_refusal}
 use Rattle.rules.proofs.refusal.copy_refusal.Goals as goal
 

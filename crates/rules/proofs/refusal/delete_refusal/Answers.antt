@@ -1,5 +1,4 @@
 -- Delete's tests 11, 5, 12, 7, in that order.
-use borrow.Author.Rules.{rules}
 use Rattle.model.specs.Calls.{delete_refusal}
 use Rattle.rules.proofs.refusal.delete_refusal.Goals as goal
 

@@ -1,10 +1,9 @@
 -- `all_bytes` meets its promise: the flag says whether every byte so far is one.
-use Prim.Native.Nat.{◌-◌, ◌≤◌}
-use mathlib.Core.Path.{◌≡◌, refl}
+use mathlib.Core.Path.{refl}
 use native.Mathlib.Omega.{arith}
 use Rattle.model.specs.Questions.{every}
 use Rattle.model.specs.Lines.{is_byte}
-use Rattle.model.proofs.QuestionLaws.{every_more, every_done}
+use Rattle.model.proofs.QuestionLaws.{every_more}
 use Rattle.runner.proofs.opening.all_bytes.Goals as goal
 
 pub loop-i-init : goal.loop-i-init

@@ -1,10 +1,8 @@
 -- `all_bytes` meets its promise: the flag says whether every byte so far is one.
 use Prim.Native.Nat.{◌-◌, ◌≤◌}
-use mathlib.Core.Path.{◌≡◌, refl}
-use native.Mathlib.Omega.{arith}
+use mathlib.Core.Path.{◌≡◌}
 use Rattle.model.specs.Questions.{every}
 use Rattle.model.specs.Lines.{is_byte}
-use Rattle.model.proofs.QuestionLaws.{every_more, every_done}
 use Rattle.runner.proofs.opening.all_bytes.Given as goal
 
 abbrev pub invariant-loop-i : goal.invariant-loop-i

@@ -4,7 +4,6 @@ use mathlib.Core.Path.{◌≡◌, sym, ◌∙◌}
 use mathlib.Core.Bool.{true}
 use native.Mathlib.Omega.{arith}
 use borrow.Author.Rules.{rules}
-use borrow.Author.Tests.{not-true, not-false}
 use Rattle.model.specs.Transcript.{opening_form}
 use Rattle.runner.specs.Opened.{pointers_in}
 use Rattle.runner.proofs.OpeningLaws.{Formed, formed, byte_below_lem, byte_cells_lem, form_turned_down, shape_turned_down, shape_asked}

@@ -1,5 +1,4 @@
 -- `step` meets its promise: each call is its own function.
-use borrow.Author.Rules.{rules}
 use Rattle.model.specs.Calls.{step}
 use Rattle.runner.proofs.session.step.Goals as goal
 

@@ -7,7 +7,6 @@ use lib.ListN.{length}
 use Rattle.model.specs.Tables.{byte_below, all_below}
 use Rattle.scan.specs.Word.{bit_mask}
 use Rattle.scan.proofs.EightLaws.{seen_covered, seen_ends, eight_bits}
-use borrow.Author.Rules.{rules}
 use Rattle.scan.proofs.bytes.all_bits.Goals as goal
 
 pub returns-then-n-lt16 : goal.returns-then-n-lt16

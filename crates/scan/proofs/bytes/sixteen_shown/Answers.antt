@@ -1,5 +1,4 @@
 -- Two words in a row.
-use borrow.Author.Rules.{rules}
 use Rattle.scan.proofs.EightLaws.{sixteen_bits}
 use Rattle.scan.proofs.bytes.sixteen_shown.Goals as goal
 

@@ -1,12 +1,10 @@
 -- What is seen so far is clear where the words so far of each stream hold zeros and ones.
-use Prim.Native.Nat.{◌≤◌, ◌-◌}
-use mathlib.Core.Path.{◌≡◌, refl, ◌∙◌}
+use mathlib.Core.Path.{refl, ◌∙◌}
 use native.Mathlib.Omega.{arith}
 use Rattle.model.specs.Questions.{every}
 use Rattle.model.specs.Tables.{byte_below}
 use Rattle.model.proofs.QuestionLaws.{every_done}
-use Rattle.scan.specs.Word.{clear, bit_mask}
-use Rattle.scan.proofs.EightLaws.{in_streams, streams_done, streams_more}
+use Rattle.scan.proofs.EightLaws.{streams_done, streams_more}
 use Rattle.scan.proofs.bytes.streams_shown.Goals as goal
 
 pub loop-i-init : goal.loop-i-init

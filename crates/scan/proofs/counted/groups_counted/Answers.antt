@@ -1,11 +1,7 @@
 -- The tally of the groups so far is that of their slots.
-use Prim.Native.Nat.{◌+◌, ◌-◌, ◌*◌, ◌≤◌}
-use mathlib.Core.Path.{◌≡◌, refl}
+use mathlib.Core.Path.{refl}
 use native.Mathlib.Omega.{arith}
-use lib.Bits.{bit_or}
 use Rattle.model.specs.Questions.{every, how_many}
-use Rattle.model.specs.Tables.{at_slot}
-use Rattle.scan.specs.Word.{packed, clear, slot_mask, word_good, word_empty}
 use Rattle.scan.proofs.counted.groups_counted.Goals as goal
 
 pub loop-j-init : goal.loop-j-init

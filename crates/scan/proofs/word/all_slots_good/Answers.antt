@@ -3,11 +3,9 @@ use Prim.Native.Nat.{◌/◌}
 use mathlib.Core.Path.{◌≡◌, ◌∙◌}
 use native.Mathlib.Omega.{arith}
 use lib.ListN.{length}
-use borrow.Author.Rules.{rules}
 use Rattle.model.specs.Questions.{every}
 use Rattle.model.specs.Tables.{all_slots_good}
-use Rattle.scan.specs.Word.{Roomy}
-use Rattle.scan.proofs.WordLaws.{rooms_roomy, words_good}
+use Rattle.scan.proofs.WordLaws.{words_good}
 use Rattle.scan.proofs.word.all_slots_good.Goals as goal
 
 pub returns-then-n-eq0 : goal.returns-then-n-eq0

@@ -2,7 +2,6 @@
 use Prim.Native.Nat.{◌-◌, ◌/◌}
 use native.Mathlib.Omega.{arith}
 use lib.ListN.{length}
-use borrow.Author.Rules.{rules}
 use Rattle.model.specs.Tables.{at_slot}
 use Rattle.scan.specs.Word.{packed, slot_mask, word_good}
 use Rattle.scan.proofs.FieldLaws.{seen_more}

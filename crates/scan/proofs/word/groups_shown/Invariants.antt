@@ -1,11 +1,9 @@
 -- What is seen so far is clear where every slot of the groups so far is good.
-use Prim.Native.Nat.{◌+◌, ◌-◌, ◌*◌, ◌≤◌}
-use mathlib.Core.Path.{◌≡◌, refl}
-use native.Mathlib.Omega.{arith}
+use Prim.Native.Nat.{◌-◌, ◌*◌, ◌≤◌}
+use mathlib.Core.Path.{◌≡◌}
 use lib.Bits.{bit_or}
 use Rattle.model.specs.Questions.{every}
 use Rattle.model.specs.Tables.{at_slot}
-use Rattle.model.proofs.QuestionLaws.{every_done}
 use Rattle.scan.specs.Word.{packed, clear, slot_mask, word_good}
 use Rattle.scan.proofs.word.groups_shown.Given as goal
 

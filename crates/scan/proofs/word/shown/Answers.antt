@@ -1,8 +1,6 @@
 -- What is shown is clear where the number and the number with its room are.
 use Prim.Native.Nat.{◌+◌, ◌%◌}
-use native.Mathlib.Omega.{arith}
 use lib.ListN.{get_or}
-use borrow.Author.Rules.{rules}
 use Rattle.scan.specs.Word.{slot_mask}
 use Rattle.scan.proofs.FieldLaws.{clear_or}
 use Rattle.scan.proofs.word.shown.Goals as goal

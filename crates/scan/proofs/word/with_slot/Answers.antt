@@ -1,9 +1,7 @@
 -- One slot more is seen: clear where its number and its number with the room are.
 use Prim.Native.Nat.{◌+◌, ◌%◌}
 use mathlib.Core.Path.{ap}
-use native.Mathlib.Omega.{arith}
 use lib.ListN.{get_or}
-use borrow.Author.Rules.{rules}
 use Rattle.model.specs.Tables.{at_slot}
 use Rattle.scan.specs.Word.{packed, slot_mask, word_good}
 use Rattle.scan.proofs.FieldLaws.{apart_more}

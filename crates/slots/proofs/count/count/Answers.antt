@@ -1,11 +1,9 @@
 -- Four slots a turn: what is counted so far is the count over the slots so far.
-use Prim.Native.Nat.{◌≤◌, ◌-◌, ◌*◌, ◌+◌, ◌/◌}
+use Prim.Native.Nat.{◌*◌, ◌+◌, ◌/◌}
 use mathlib.Core.Path.{◌≡◌, refl}
 use native.Mathlib.Omega.{arith}
 use lib.ListN.{length}
 use Rattle.model.specs.Questions.{total}
-use Rattle.model.specs.Tables.{message_at}
-use Rattle.slots.specs.FirstSlots.{plus_of, minus_of}
 use Rattle.slots.proofs.count.count.Goals as goal
 
 pub loop-t-init : goal.loop-t-init

@@ -1,9 +1,6 @@
 -- Four slots a turn: what is counted so far is the count over the slots so far.
-use Prim.Native.Nat.{◌≤◌, ◌-◌, ◌*◌, ◌+◌, ◌/◌}
-use mathlib.Core.Path.{◌≡◌, refl}
-use native.Mathlib.Omega.{arith}
-use lib.ListN.{length}
-use Rattle.model.specs.Questions.{total}
+use Prim.Native.Nat.{◌≤◌, ◌-◌, ◌*◌}
+use mathlib.Core.Path.{◌≡◌}
 use Rattle.model.specs.Tables.{message_at}
 use Rattle.slots.specs.FirstSlots.{plus_of, minus_of}
 use Rattle.slots.proofs.count.count.Given as goal

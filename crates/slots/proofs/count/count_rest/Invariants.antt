@@ -1,8 +1,7 @@
 -- What is counted so far is the count over the slots so far.
 use Prim.Native.Nat.{◌≤◌, ◌-◌}
 use mathlib.Core.Path.{◌≡◌}
-use native.Mathlib.Omega.{arith}
-use Rattle.model.specs.Tables.{slots_of, message_at}
+use Rattle.model.specs.Tables.{message_at}
 use Rattle.slots.specs.FirstSlots.{plus_of, minus_of}
 use Rattle.slots.proofs.count.count_rest.Given as goal
 

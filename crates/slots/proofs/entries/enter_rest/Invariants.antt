@@ -1,8 +1,7 @@
 -- The rows so far are the sheet of the slots so far.
 use Prim.Native.Nat.{◌≤◌, ◌-◌}
 use mathlib.Core.Path.{◌≡◌}
-use native.Mathlib.Omega.{arith}
-use Rattle.model.specs.Tables.{slots_of, message_at}
+use Rattle.model.specs.Tables.{message_at}
 use Rattle.slots.specs.FirstSlots.{entries as entries_of}
 use Rattle.slots.proofs.entries.enter_rest.Given as goal
 

@@ -1,12 +1,8 @@
 -- Four slots a turn: the rows so far are the sheet of the slots so far.
-use Prim.Native.Nat.{◌+◌, ◌-◌, ◌*◌, ◌/◌, ◌≤◌}
-use mathlib.Core.Path.{◌≡◌, ◌∙◌}
-use native.Mathlib.Omega.{arith}
-use lib.ListN.{length}
-use borrow.Author.Rules.{rules}
+use Prim.Native.Nat.{◌-◌, ◌*◌, ◌≤◌}
+use mathlib.Core.Path.{◌≡◌}
 use Rattle.model.specs.Tables.{message_at}
 use Rattle.slots.specs.FirstSlots.{entries as entries_of}
-use Rattle.slots.proofs.SheetLaws.{no_entries}
 use Rattle.slots.proofs.entries.entries.Given as goal
 
 abbrev pub invariant-loop-t : goal.invariant-loop-t

@@ -1,12 +1,8 @@
 -- The scan for an INC_DEC that holds a DEC back, four slots a turn; the invariant: none was met so far.
-use Prim.Native.Nat.{◌+◌, ◌-◌, ◌*◌, ◌/◌, ◌≤◌}
+use Prim.Native.Nat.{◌+◌, ◌*◌}
 use mathlib.Core.Path.{◌≡◌, refl, sym, ◌∙◌}
-use mathlib.Core.Bool.{false}
 use native.Mathlib.Omega.{arith}
-use lib.ListN.{length}
 use Rattle.model.specs.Questions.{some}
-use Rattle.model.specs.Messages.{is_inc_dec}
-use Rattle.model.specs.Tables.{message_at}
 use Rattle.model.proofs.QuestionLaws.{some_there}
 use Rattle.slots.proofs.HeldLaws.{none_four}
 use Rattle.slots.proofs.held.held.Goals as goal

@@ -1,14 +1,10 @@
 -- The scan for an INC_DEC that holds a DEC back; the invariant: none was met so far.
 use Prim.Native.Nat.{◌≤◌, ◌-◌}
-use mathlib.Core.Path.{◌≡◌, sym, ◌∙◌}
+use mathlib.Core.Path.{◌≡◌}
 use mathlib.Core.Bool.{false}
-use native.Mathlib.Omega.{arith}
 use Rattle.model.specs.Questions.{some}
 use Rattle.model.specs.Messages.{is_inc_dec}
 use Rattle.model.specs.Tables.{message_at}
-use Rattle.model.proofs.QuestionLaws.{some_done}
-use Rattle.model.proofs.QuestionLaws.{some_there}
-use Rattle.slots.proofs.HeldLaws.{none_more}
 use Rattle.slots.proofs.held.held_from.Given as goal
 
 abbrev pub invariant-loop-i : goal.invariant-loop-i

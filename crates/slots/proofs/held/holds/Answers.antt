@@ -1,7 +1,5 @@
 -- A slot of another pointer holds no such INC_DEC; of any other, its message is asked.
 use mathlib.Core.Path.{sym}
-use native.Mathlib.Omega.{arith}
-use borrow.Author.Rules.{rules}
 use Rattle.model.specs.Tables.{message_at}
 use Rattle.slots.proofs.PointerLaws.{other_pointer, no_inc_dec}
 use Rattle.slots.proofs.held.holds.Goals as goal

@@ -1,11 +1,8 @@
 -- From slot t * 4 on, the lowest empty slot is the pool's.
-use Prim.Native.Nat.{◌+◌, ◌-◌, ◌*◌, ◌/◌, ◌≤◌}
+use Prim.Native.Nat.{◌+◌, ◌*◌}
 use mathlib.Core.Path.{◌≡◌}
-use native.Mathlib.Nat.{sub-zero}
 use native.Mathlib.Omega.{arith}
-use lib.ListN.{length}
 use borrow.Author.Tests.{eq-eqb, ne_eqb}
-use Rattle.model.specs.Questions.{lowest_from, lowest}
 use Rattle.model.specs.Tables.{slots_of, empty_at}
 use Rattle.slots.proofs.LowestLaws.{here, past_one, past_two, past_three, past_four}
 use Rattle.slots.proofs.lowest.lowest_empty.Goals as goal

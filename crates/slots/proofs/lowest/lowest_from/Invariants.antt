@@ -1,11 +1,8 @@
 -- From slot i on, the lowest empty slot is the pool's.
 use Prim.Native.Nat.{◌≤◌, ◌-◌}
-use mathlib.Core.Path.{◌≡◌, sym, ◌∙◌}
-use native.Mathlib.Omega.{arith}
-use borrow.Author.Tests.{eq-eqb, ne_eqb}
+use mathlib.Core.Path.{◌≡◌}
 use Rattle.model.specs.Questions.{lowest_from, lowest}
 use Rattle.model.specs.Tables.{slots_of, empty_at}
-use Rattle.model.proofs.QuestionLaws.{lowest_here, lowest_next, lowest_none}
 use Rattle.slots.proofs.lowest.lowest_from.Given as goal
 
 abbrev pub invariant-loop-i : goal.invariant-loop-i

@@ -1,6 +1,5 @@
 -- Two numbers below half the width: their difference fits, and its bits are read back as it is.
-use borrow.Author.Rules.{rules}
-use Rattle.slots.proofs.SignedLaws.{difference_fits, difference_as}
+use Rattle.slots.proofs.SignedLaws.{difference_as}
 use Rattle.slots.proofs.weight.balance.Goals as goal
 
 pub returns : goal.returns

@@ -1,8 +1,7 @@
 -- Zero after zero.
 use Prim.Native.Nat.{◌-◌}
-use native.Mathlib.Omega.{arith}
 use lib.ListN.{length}
-use Rattle.tables.proofs.FillLaws.{Zeroed, zeroed_none, zeroed_more, filled_all}
+use Rattle.tables.proofs.FillLaws.{Zeroed}
 use Rattle.tables.proofs.clear.clear_slots.Given as goal
 
 abbrev pub invariant-loop-i : goal.invariant-loop-i

@@ -1,10 +1,6 @@
 -- Sizes first, then the owners.
 use mathlib.Core.Path.{sym, ◌∙◌}
-use lib.ListN.{length}
-use borrow.Author.Rules.{rules}
-use borrow.Author.Tests.{not-true, not-false}
 use Rattle.model.specs.Tables.{owners_refusal}
-use Rattle.model.proofs.ShapeLaws.{sized}
 use Rattle.tables.proofs.owners.owners_refusal.Goals as goal
 
 pub returns-then-not-sizes_good : goal.returns-then-not-sizes_good

@@ -1,11 +1,6 @@
 -- Cell after cell, each 1 where the site owns the pointer.
-use Prim.Native.Nat.{◌-◌}
 use native.Mathlib.Omega.{arith}
-use lib.ListN.{length}
-use borrow.Author.Rules.{rules}
-use Rattle.model.specs.Tables.{own_row}
-use Rattle.tables.proofs.FillLaws.{Filled, filled_all}
-use Rattle.tables.proofs.RowLaws.{row_none, row_more}
+use Rattle.tables.proofs.RowLaws.{row_more}
 use Rattle.tables.proofs.rows.write_row.Goals as goal
 
 pub loop-p-preserved : goal.loop-p-preserved

@@ -1,7 +1,6 @@
 -- Row after row, each at its site's place.
-use Prim.Native.Nat.{◌-◌, ◌≤◌}
 use native.Mathlib.Omega.{arith}
-use Rattle.tables.proofs.RowLaws.{Rowed, rows_none, row_inside, row_length, rows_more, rows_all}
+use Rattle.tables.proofs.RowLaws.{rows_none, rows_more}
 use Rattle.tables.proofs.rows.write_rows.Goals as goal
 
 pub loop-site-init : goal.loop-site-init

@@ -1,7 +1,6 @@
 -- Row after row, each at its site's place.
 use Prim.Native.Nat.{◌-◌, ◌≤◌}
-use native.Mathlib.Omega.{arith}
-use Rattle.tables.proofs.RowLaws.{Rowed, rows_none, row_inside, row_length, rows_more, rows_all}
+use Rattle.tables.proofs.RowLaws.{Rowed}
 use Rattle.tables.proofs.rows.write_rows.Given as goal
 
 abbrev pub invariant-loop-site : goal.invariant-loop-site

@@ -1,7 +1,6 @@
 -- The tally of the groups so far is that of their slots.
-use Prim.Native.Nat.{◌+◌, ◌-◌, ◌*◌, ◌≤◌}
-use mathlib.Core.Path.{◌≡◌, refl}
-use native.Mathlib.Omega.{arith}
+use Prim.Native.Nat.{◌-◌, ◌*◌, ◌≤◌}
+use mathlib.Core.Path.{◌≡◌}
 use lib.Bits.{bit_or}
 use Rattle.model.specs.Questions.{every, how_many}
 use Rattle.scan.specs.Word.{clear}

@@ -1,7 +1,6 @@
 -- The same slot is shown and counted.
 use Prim.Native.Nat.{◌*◌, ◌%◌}
 use native.Mathlib.Omega.{arith}
-use borrow.Author.Rules.{rules}
 use Rattle.model.proofs.EmptySlots.{at_most_all}
 use Rattle.scan.specs.Word.{eight_at}
 use Rattle.scan.proofs.CountedLaws.{one_of, word_counted}

@@ -1,6 +1,5 @@
 -- One slot more is counted where it is empty.
 use native.Mathlib.Omega.{arith}
-use borrow.Author.Rules.{rules}
 use Rattle.model.specs.Tables.{empty_at}
 use Rattle.model.proofs.EmptySlots.{at_most_all}
 use Rattle.scan.proofs.CountedLaws.{byte_at_most_1, byte_counted}

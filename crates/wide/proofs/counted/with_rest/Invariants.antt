@@ -1,9 +1,8 @@
 -- What is counted so far is the count of the slots so far.
 use Prim.Native.Nat.{◌≤◌, ◌-◌}
 use mathlib.Core.Path.{◌≡◌}
-use native.Mathlib.Omega.{arith}
 use Rattle.model.specs.Questions.{how_many}
-use Rattle.model.specs.Tables.{slots_of, empty_at}
+use Rattle.model.specs.Tables.{empty_at}
 use Rattle.wide.proofs.counted.with_rest.Given as goal
 
 abbrev pub invariant-loop-i : goal.invariant-loop-i

@@ -3,12 +3,10 @@ use Prim.Native.Nat.{◌/◌}
 use mathlib.Core.Path.{◌≡◌, ◌∙◌}
 use native.Mathlib.Omega.{arith}
 use lib.ListN.{length}
-use borrow.Author.Rules.{rules}
 use Rattle.model.specs.Questions.{every}
 use Rattle.model.specs.Tables.{all_slots_good}
 use Rattle.in_order.specs.Ordered.{all_numbers_good}
-use Rattle.wide.specs.Wide.{WideRoomy}
-use Rattle.wide.proofs.WideLaws.{rooms_wide, sevens_good}
+use Rattle.wide.proofs.WideLaws.{sevens_good}
 use Rattle.wide.proofs.word.all_slots_good.Goals as goal
 
 pub returns-then-n-eq0 : goal.returns-then-n-eq0

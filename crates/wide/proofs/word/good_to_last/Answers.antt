@@ -2,7 +2,6 @@
 use Prim.Native.Nat.{◌-◌, ◌/◌}
 use native.Mathlib.Omega.{arith}
 use lib.ListN.{length}
-use borrow.Author.Rules.{rules}
 use Rattle.scan.proofs.FieldLaws.{seen_more}
 use Rattle.wide.specs.Wide.{wide_mask, seven_good}
 use Rattle.wide.proofs.word.good_to_last.Goals as goal

@@ -1,13 +1,11 @@
 -- What is shown is clear where what is looked at is, and with its room.
 use Prim.Native.Nat.{◌+◌, ◌%◌}
 use mathlib.Core.Path.{◌∙◌}
-use native.Mathlib.Omega.{arith}
 use lib.Bits.{bit_and}
 use lib.ListN.{get_or}
-use borrow.Author.Rules.{rules}
 use Rattle.scan.proofs.FieldLaws.{clear_or}
 use Rattle.wide.specs.Wide.{wide_mask}
-use Rattle.wide.proofs.WideLaws.{kept_low, kept_good}
+use Rattle.wide.proofs.WideLaws.{kept_good}
 use Rattle.wide.proofs.word.shown.Goals as goal
 
 pub returns : goal.returns

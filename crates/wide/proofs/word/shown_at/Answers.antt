@@ -1,6 +1,5 @@
 -- What is shown of a slot with the byte that follows it is shown of the slot.
 use mathlib.Core.Path.{◌∙◌, ap}
-use borrow.Author.Rules.{rules}
 use Rattle.wide.specs.Wide.{wide_good}
 use Rattle.wide.proofs.WideLaws.{seven_good_lem}
 use Rattle.wide.proofs.word.shown_at.Goals as goal

@@ -1,13 +1,11 @@
 -- One slot more is seen: clear where what is looked at of it is, and with the room.
 use Prim.Native.Nat.{◌+◌, ◌%◌}
 use mathlib.Core.Path.{◌∙◌, ap}
-use native.Mathlib.Omega.{arith}
 use lib.Bits.{bit_and}
 use lib.ListN.{get_or}
-use borrow.Author.Rules.{rules}
 use Rattle.scan.proofs.FieldLaws.{apart_more}
 use Rattle.wide.specs.Wide.{wide_mask, wide_good, seven_good}
-use Rattle.wide.proofs.WideLaws.{kept_low, kept_good, seven_good_lem}
+use Rattle.wide.proofs.WideLaws.{kept_good, seven_good_lem}
 use Rattle.wide.proofs.word.with_slot.Goals as goal
 
 pub returns : goal.returns

@@ -3,7 +3,7 @@ use mathlib.Core.Path.{◌≡◌, sym, ◌∙◌}
 use mathlib.Core.Bool.{true}
 use lib.ListN.{length}
 use borrow.Author.Rules.{rules}
-use borrow.Author.Tests.{not-true, not-false, eqb-true}
+use borrow.Author.Tests.{eqb-true}
 use Rattle.model.specs.Flat.{held_slots}
 use Rattle.model.proofs.PartLaws.{fitting}
 use Rattle.model.proofs.TablesLaws.{shape_sizes}
