@@ -5,10 +5,14 @@ ghost use Rattle.std.specs.Prelude.{◌≡◌, ◌≤◌, length};
 
 use std::io::{self, Read, Write};
 
-// Where nothing came since the input cannot be read at all; that the message cannot be written is told to nobody.
-fn tell_unreadable(rt: &impl Eprint) {
-    match eprintln!(rt; "desk: the input cannot be read") {
-        Ok(()) | Err(_) => {}
+// Where nothing came: whether the input can be read at all is asked by a read of no bytes, and told if not.
+fn tell_unreadable(rt: &HostRuntime) {
+    let mut none = [0u8; 0];
+    match rt.stdin().read(&mut none) {
+        Ok(_) => {}
+        Err(_) => match eprintln!(rt; "desk: the input cannot be read") {
+            Ok(()) | Err(_) => {}
+        },
     }
 }
 
@@ -22,12 +26,7 @@ fn read_full(rt: &HostRuntime, buffer: &mut [u8]) -> usize
     while n < buffer.len() {
         let count = match input.read(&mut buffer[n..]) {
             Ok(count) => count,
-            Err(_) => {
-                if n == 0 {
-                    tell_unreadable(rt);
-                }
-                break;
-            }
+            Err(_) => break,
         };
         if count == 0 {
             break;
@@ -42,6 +41,9 @@ fn main(rt: HostRuntime) {
     let mut input = [0u8; 8193];
     let mut output = [0u8; 139264];
     let n = read_full(&rt, &mut input);
+    if n == 0 {
+        tell_unreadable(&rt);
+    }
     let m = runner::run(&input[..n], &mut output);
     match io::writer(&rt).write_all(&output[..m]) {
         Ok(()) | Err(_) => {}

@@ -2,7 +2,6 @@
 use Prim.Native.Nat.{ℕ, ◌<◌}
 use mathlib.Core.Path.{◌≡◌, refl, sym, ap, ◌∙◌}
 use mathlib.Core.Bool.{Bool, true}
-use mathlib.Core.List.{List, [], ◌∷◌}
 use lib.Dec.{eqb}
 use lib.ListN.{length, get_or}
 use borrow.Author.Tests.{eqb-true}
@@ -10,10 +9,7 @@ use Rattle.model.specs.Questions.{every}
 use Rattle.model.specs.Lines.{digit_of, number_of}
 use Rattle.model.proofs.QuestionLaws.{every_at}
 use Rattle.model.proofs.DigitLaws.{number_of_digit}
-
--- 0 to 9, A to F
-abbrev pub table : List ℕ
-table = 48 ∷ 49 ∷ 50 ∷ 51 ∷ 52 ∷ 53 ∷ 54 ∷ 55 ∷ 56 ∷ 57 ∷ 65 ∷ 66 ∷ 67 ∷ 68 ∷ 69 ∷ 70 ∷ []
+use Rattle.lines.proofs.Table.{table}
 
 pub sixteen_entries : length table ≡ 16
 sixteen_entries = refl

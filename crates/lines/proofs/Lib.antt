@@ -1,4 +1,5 @@
 -- What the proofs of the functions cite.
+pub mod Table
 pub mod DigitTable
 pub mod StoreLaws
 pub mod ReaderLaws

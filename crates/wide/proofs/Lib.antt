@@ -1,2 +1,3 @@
 -- What the proofs of the functions cite.
+pub mod KeepLaws
 pub mod WideLaws

@@ -1,5 +1,5 @@
 -- The test of a slot of seven bytes as one number is the plain test: its five bytes as those of five, and its number where it is empty.
-use Prim.Native.Nat.{ℕ, zero, suc, ◌+◌, ◌*◌, ◌/◌, ◌%◌, ◌^◌, ◌-◌, ◌≤◌, ◌<◌}
+use Prim.Native.Nat.{ℕ, zero, suc, ◌+◌, ◌*◌, ◌/◌, ◌%◌, ◌≤◌, ◌<◌}
 use mathlib.Core.Path.{◌≡◌, refl, sym, ap, ap₂, ◌∙◌}
 use mathlib.Core.Bool.{Bool, true, ◌&&◌, cond}
 use mathlib.Core.List.{List}
@@ -20,6 +20,7 @@ use Rattle.scan.proofs.FieldLaws.{masked_block, masked, no_field}
 use Rattle.scan.proofs.WordLaws.{word_good_lem, rooms_roomy, eight_cut}
 use Rattle.scan.proofs.EightLaws.{both}
 use Rattle.scan.proofs.CountedLaws.{same_count}
+use Rattle.wide.proofs.KeepLaws.{full_keep, same_kept, kind_kept}
 use Rattle.wide.specs.Wide.{seven_at, keeps, wide_mask, wide_rooms, WideRoomy, looked, wide_good, seven_good, seven_empty}
 
 -- ---- sums within 64 bits
@@ -50,20 +51,6 @@ pub kept_good : (keep room : List ℕ) (x : ℕ) → keep ≡ keeps
 kept_good keep room x e = ap (λ (l : List ℕ). tested (bit_and x (get_or l (x % 4) 0)) (get_or room (x % 4) 0)) e
 
 -- ---- the byte above seven does not matter
-kept : (n x y : ℕ) → x % 2 ^ n ≡ y % 2 ^ n → bit_and x (2 ^ n - 1) ≡ bit_and y (2 ^ n - 1)
-kept n x y e = and_mask x n ∙ e ∙ sym (and_mask y n)
-
--- kinds 1 to 3 are cut alike
-full_keep : (j : ℕ) → j < 3 → get_or keeps (suc j) 0 ≡ 1099511627775
-full_keep zero l = refl
-full_keep (suc zero) l = refl
-full_keep (suc (suc zero)) l = refl
-full_keep (suc (suc (suc j))) l = absurd (omega arith)
-
-same_kept : (j x : ℕ) → j < 4 → bit_and x (get_or keeps j 0) ≡ bit_and (x % 72057594037927936) (get_or keeps j 0)
-same_kept zero x l = kept 56 x (x % 72057594037927936) (omega arith)
-same_kept (suc j) x l = rw (full_keep j (omega arith)) (kept 40 x (x % 72057594037927936) (omega arith))
-
 seven_same : (room : List ℕ) (x : ℕ) → wide_good room x ≡ wide_good room (x % 72057594037927936)
 seven_same room x =
     let y = x % 72057594037927936 in
@@ -91,10 +78,6 @@ clear_low n l t =
     omega (arith, z, and_mask a 1)
 
 -- ---- the kind shows above 3
-kind_kept : (j x : ℕ) → j < 4 → bit_and x (get_or keeps j 0) % 256 ≡ x % 256
-kind_kept zero x l = ap (λ (n : ℕ). n % 256) (and_mask x 56) ∙ omega arith
-kind_kept (suc j) x l = rw (full_keep j (omega arith)) (ap (λ (n : ℕ). n % 256) (and_mask x 40) ∙ omega arith)
-
 below_four : (kind : ℕ) → kind < 256 → kind / 4 % 64 ≡ 0 → kind < 4
 below_four kind l z = omega arith
 
