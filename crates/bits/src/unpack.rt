@@ -1,44 +1,49 @@
 // From words to the byte cells of document 01 (Document 02, Five).
-ghost use Rattle.std.specs.Prelude.{◌≡◌, true, ◌*◌, ◌^◌, ◌≤◌, length};
-ghost use Rattle.model.specs.Tables.{all_below};
-ghost use Rattle.word_cells.specs.WordCells.{unpacked, unpack as unpack_of};
+ghost use Rattle.std.specs.Prelude.{◌≡◌, map, ◌*◌, ◌<◌, ◌≤◌, length};
+ghost use Rattle.rules.specs.Turned.{told};
+ghost use Rattle.word_cells.specs.WordCells.{bit, unpacked, unpack as unpack_of};
 
 use crate::bit::bit_of;
 use crate::fit::tables_fit;
 use crate::within::all_within;
-use model::{Answer, Posted};
-use rules::answer::{accepted, refused};
+use model::Posted;
+use rules::answer::Accepted;
+use rules::refusal::Refusal;
 
-// The cells of all sites: p and site are those of the cell that is written.
+// The row of a site: its bit of each word.
+fn write_row(site: u8, words: &[u64], row: &mut [u8])
+    requires { (site < 64) × (length row.old ≡ length words.now) }
+    ensures { row.new ≡ map (λ word. bit word site) words.now }
+{
+    for (p, cell) in row.iter_mut().enumerate() {
+        *cell = bit_of(words[p], site);
+    }
+}
+
+// The rows of all sites. No call of tables::rows: one function for both would take the cell as a closure and want a third definition of rows.
+#[tactic(auto, using(std::proofs::lemmas::Slice::overwrites), unfolding(word_cells::specs::WordCells::unpacked))]
 fn write_cells(sites: u8, words: &[u64], cells: &mut [u8])
-    requires { (sites ≤ 64) × (length cells.old ≡ sites * length words.now) × (all_below (2 ^ sites) words.now ≡ true) }
+    requires { (sites ≤ 64) × (length cells.old ≡ sites * length words.now) }
     ensures { cells.new ≡ unpacked sites words.now }
 {
     let g = words.len();
-    let mut site: u8 = 0;
-    let mut p = 0;
-    let mut at = 0;
-    while at < cells.len() {
-        cells[at] = bit_of(words[p], site);
-        at += 1;
-        p += 1;
-        if p == g {
-            p = 0;
-            site += 1;
-        }
+    for site in 0..sites {
+        let start = (site as usize) * g;
+        write_row(site, words, &mut cells[start..start + g]);
     }
 }
 
 // Words as byte cells: 1, 2; after a refusal nothing is written.
-pub fn unpack(sites: u8, words: &[u64], cells: &mut [u8]) -> Answer
-    ensures { record { answer = result; desk = cells.new } ≡ unpack_of sites words.now cells.old }
+#[tactic(auto, unfolding(word_cells::specs::WordCells::unpack, word_cells::specs::WordCells::unpack_number))]
+pub fn unpack(sites: u8, words: &[u64], cells: &mut [u8]) -> Result<Accepted, Refusal>
+    ensures { record { answer = told result; desk = cells.new } ≡ unpack_of sites words.now cells.old }
 {
     if !tables_fit(sites, cells.len(), words.len()) {
-        return refused(1);
+        return Err(Refusal::BadShape);
     }
     if !all_within(words, sites) {
-        return refused(2);
+        return Err(Refusal::BadTable);
     }
     write_cells(sites, words, cells);
-    accepted(0, Posted::Nothing)
+    Ok(Accepted::new(0, Posted::Nothing))
 }

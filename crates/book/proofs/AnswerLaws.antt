@@ -4,17 +4,30 @@ use mathlib.Core.Path.{◌≡◌, refl, ap}
 use mathlib.Core.List.{List}
 use native.Mathlib.Omega.{arith}
 use Rattle.model.specs.declared.Posted.TheVariants.{Nothing}
-use Rattle.model.specs.declared.Answer.{Answer}
+use Rattle.model.specs.Answers.{Answer}
+use Rattle.std.specs.Prelude.{Ok, Err}
+use Rattle.rules.specs.declared.refusal.Refusal.{Refusal}
+use Rattle.rules.specs.declared.answer.Accepted.{Accepted}
+use Rattle.rules.specs.Turned.{number_of, told}
+use Rattle.rules.proofs.TurnedLaws.{number_given}
 use Rattle.model.specs.Answers.{accepted, refused}
 use Rattle.book.specs.Book.{answered, check_number, check_answer, search_number, search_answer}
 
--- at each place where the code returns: a number that is given, or none
 pub refused_answer : (n number value : ℕ) {r : Answer} → (n ≡ 0 → ⊥) → n ≡ number → r ≡ refused n → r ≡ answered number value
 refused_answer zero number value given e q = absurd (given refl)
 refused_answer (suc n) number value given e q = rw (← e) q
 
 pub accepted_answer : (number value : ℕ) {found : ℕ} {r : Answer} → 0 ≡ number → found ≡ value → r ≡ accepted found Nothing → r ≡ answered number value
 accepted_answer number value e f q = rw (← e, ← f) q
+
+-- at each place where the code returns: a number that is given, or none
+pub told_refused : (refusal : Refusal) (number value : ℕ) → number_of refusal ≡ number → told (Err refusal) ≡ answered number value
+told_refused refusal number value e = refused_answer (number_of refusal) number value (number_given refusal) e refl
+
+pub told_accepted : (accepted_value : Accepted) (number value : ℕ) → told (Ok accepted_value) ≡ accepted value Nothing → 0 ≡ number → told (Ok accepted_value) ≡ answered number value
+told_accepted accepted_value number value q e = accepted_answer number value e refl q
+
+pub ruleset telling = (told_refused, told_accepted)
 
 -- what it says of them
 pub answered_accepted : (n value found : ℕ) → answered n value ≡ accepted found Nothing → (n ≡ 0) × (value ≡ found)

@@ -5,7 +5,7 @@ use Prim.Native.String.{String, [] as no_more, ◌∷◌ as ◌before◌}
 use mathlib.Core.Path.{◌≡◌, refl}
 use mathlib.Core.List.{List, [], ◌∷◌, map}
 use Rattle.model.specs.declared.Posted.TheVariants.{Nothing}
-use Rattle.model.specs.declared.Answer.{Answer}
+use Rattle.model.specs.Answers.{Answer}
 use Rattle.model.specs.Questions.{every, some, lowest_from}
 use Rattle.model.specs.Answers.{accepted, refused}
 use Rattle.model.specs.Tables.{all_below, owners_refusal}

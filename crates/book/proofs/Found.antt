@@ -6,7 +6,7 @@ use mathlib.Core.Logic.{◌⊎◌, ⊎_elim}
 use native.Mathlib.Omega.{arith}
 use lib.ListN.{length, get_or}
 use Rattle.model.specs.declared.Posted.TheVariants.{Nothing}
-use Rattle.model.specs.declared.Answer.{Answer}
+use Rattle.model.specs.Answers.{Answer}
 use Rattle.model.specs.Refusals.{NotListed}
 use Rattle.model.specs.Questions.{lowest}
 use Rattle.model.specs.Answers.{accepted, refused}

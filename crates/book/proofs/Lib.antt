@@ -1,5 +1,6 @@
 -- What is true of a book.
 -- Laws for the proofs of the functions.
+pub mod TurnedLaws
 pub mod OwnerLaws
 pub mod SameLaws
 pub mod EntryLaws
@@ -7,6 +8,7 @@ pub mod FindLaws
 pub mod AnswerLaws
 pub mod RefusalLaws
 pub mod AddressLaws
+pub mod SearchLaws
 -- Theorems for a reader.
 pub mod Written
 pub mod Handed

@@ -1,20 +1,38 @@
 -- When a question of the book passes its tests, and what the order of its refusals gives where it does not.
-use Prim.Native.Nat.{ℕ, ◌≤◌, ◌<◌}
-use mathlib.Core.Path.{◌≡◌, refl, sym, ◌∙◌}
+use Prim.Native.Nat.{ℕ, ◌+◌, ◌≤◌, ◌<◌}
+use mathlib.Core.Path.{◌≡◌, refl, sym, ap, ◌∙◌}
 use mathlib.Core.Bool.{Bool, true, false, not}
 use mathlib.Core.List.{List}
 use native.Mathlib.Omega.{arith}
-use lib.Dec.{ltb}
+use lib.Dec.{leb, ltb, eqb}
+use mathlib.Core.Logic.{⊎_elim}
+use Rattle.std.proofs.lemmas.Bool.{cases_lt}
+use Rattle.std.specs.Prelude.{Option, None, Some, Result}
+use Rattle.std.specs.Result.{result_and}
+use Rattle.std.specs.Option.{unwrap_or, option_eq}
+use Rattle.rules.specs.declared.refusal.Refusal.{Refusal}
+use Rattle.rules.specs.Turned.{number_in}
 use lib.ListN.{length}
-use borrow.Author.Tests.{ltb-true, lt-ltb, le-ltb, eq-eqb, ne_eqb, not-false}
+use borrow.Author.Tests.{le-leb, lt-leb, ltb-true, lt-ltb, le-ltb, ne_eqb, not-false}
 use Rattle.model.specs.Refusals.{◌when◌, ◌or_else◌}
 use Rattle.model.specs.Questions.{some, lowest}
 use Rattle.model.specs.Tables.{sizes_good, all_below, owners_refusal}
 use Rattle.model.proofs.TestLaws.{when_not, or_else_none, or_else_most, when_most}
 use Rattle.book.specs.Book.{entry_at, is_book, has, twins, book_refusal, address_number, check_number, search_number}
-use Rattle.book.specs.Walk.{walked, entry_place}
+use Rattle.book.specs.Walk.{walked}
 use Rattle.model.proofs.QuestionLaws.{some_lowest}
-use Rattle.book.proofs.EntryLaws.{walked_all}
+use Rattle.book.proofs.TurnedLaws.{and_refusal}
+use Rattle.book.proofs.EntryLaws.{walked_all, walked_entry, entry_inside}
+
+-- a number that is not below another
+not_below : (n k : ℕ) → leb k n ≡ not (ltb n k)
+not_below n k = ⊎_elim (λ l. rw (lt-leb k n l, lt-ltb n k l)) (λ l. rw (le-leb k n l, le-ltb n k l)) (cases_lt n k)
+
+-- ---- the walk over all entries ends where the book does exactly where the book is so many entries
+pub walked_whole : (r : Option ℕ) (book : List ℕ) (g : ℕ) {whole : Bool} → unwrap_or r (length book + 1) ≡ walked 1 book 0 g
+    → whole ≡ option_eq eqb r (Some (length book)) → whole ≡ is_book g book
+walked_whole (Some at) book g e f = f ∙ rw e (walked_all 1 book g)
+walked_whole None book g e f = f ∙ sym (ne_eqb (walked 1 book 0 g) (length book) (λ q. omega arith)) ∙ walked_all 1 book g
 
 module _ (s : ℕ) (owners book : List ℕ) where
   -- ---- 1, 2, 18
@@ -24,6 +42,9 @@ module _ (s : ℕ) (owners book : List ℕ) where
       let h = or_else_none (owners_refusal s owners) (18 when not (is_book (length owners) book)) e in
       (h.0, not-false _ (when_not 17 (not (is_book (length owners) book)) h.1))
 
+  pub book_passed : 0 ≡ book_refusal s owners book → is_book (length owners) book ≡ true
+  book_passed e = (book_passes (sym e)).1
+
   pub book_most : book_refusal s owners book ≤ 18
   unfolding book_refusal owners_refusal
   book_most =
@@ -32,40 +53,34 @@ module _ (s : ℕ) (owners book : List ℕ) where
       (when_most 1 (not (sizes_good s (length owners))) 18 (omega arith)) (when_most 2 (not (all_below s owners)) 18 (omega arith)))
       (when_most 18 (not (is_book (length owners) book)) 18 (omega arith))
 
-  -- the walk over all entries ends elsewhere than the book: 18; it ends there: none
-  module _ (passed : owners_refusal s owners ≡ 0) {at : ℕ} (e : at ≡ walked 1 book 0 (length owners)) where
-    pub book_bad : (at ≡ length book → ⊥) → 18 ≡ book_refusal s owners book
-    unfolding book_refusal
-    book_bad h = rw (passed, ← walked_all 1 book (length owners), ← e, ne_eqb at (length book) h)
-
-    pub book_good : at ≡ length book → 0 ≡ book_refusal s owners book
-    unfolding book_refusal
-    book_good h = rw (passed, ← walked_all 1 book (length owners), ← e, eq-eqb at (length book) h)
-
   -- ---- the question for an address: 3
   module _ (p : ℕ) where
+    pub address_told : {A B : Type 0} (a : Result A Refusal) (b : Result B Refusal) → number_in a ≡ book_refusal s owners book
+        → number_in b ≡ 3 when leb (length owners) p → number_in (result_and a b) ≡ address_number s owners book p
+    unfolding address_number
+    address_told a b e f = and_refusal a b _ _ e (f ∙ rw (not_below p (length owners)))
+
     pub address_passes : address_number s owners book p ≡ 0 → (book_refusal s owners book ≡ 0) × (p < length owners)
     unfolding address_number
     address_passes e =
         let h = or_else_none (book_refusal s owners book) (3 when not (ltb p (length owners))) e in
         (h.0, ltb-true _ _ (not-false _ (when_not 2 (not (ltb p (length owners))) h.1)))
 
-    pub address_beyond : book_refusal s owners book ≡ 0 → length owners ≤ p → 3 ≡ address_number s owners book p
-    unfolding address_number
-    address_beyond e l = rw (e, le-ltb p (length owners) l)
-
     pub address_given : book_refusal s owners book ≡ 0 → p < length owners → 0 ≡ address_number s owners book p
     unfolding address_number
     address_given e l = rw (e, lt-ltb p (length owners) l)
 
-    -- where its entry starts: nowhere in the book after a refusal
-    pub place_refused : (address_number s owners book p ≡ 0 → ⊥) → length book ≡ entry_place s owners book p
-    unfolding entry_place
-    place_refused h = rw (ne_eqb (address_number s owners book p) 0 h)
-
-    pub place_given : address_number s owners book p ≡ 0 → entry_at book p ≡ entry_place s owners book p
-    unfolding entry_place
-    place_given e = rw e
+    -- the walk to its entry finds it
+    pub place_found : (r : Option ℕ) → 0 ≡ address_number s owners book p → unwrap_or r (length book + 1) ≡ walked 1 book 0 p → r ≡ Some (entry_at book p)
+    place_found r z e =
+        let a = address_passes (sym z) in
+        let good = (book_passes a.0).1 in
+        let q = e ∙ walked_entry 1 book (length owners) good p (omega arith) in
+        go r q (omega (arith, q, entry_inside 1 book (length owners) good p a.1))
+      where
+        go : (r : Option ℕ) → unwrap_or r (length book + 1) ≡ entry_at book p → unwrap_or r (length book + 1) ≤ length book → r ≡ Some (entry_at book p)
+        go (Some at) e l = ap Some e
+        go None e l = absurd (omega arith)
 
   -- ---- the check: 19
   pub check_passes : check_number s owners book ≡ 0 → (book_refusal s owners book ≡ 0) × (twins owners book ≡ false)
@@ -83,20 +98,8 @@ module _ (s : ℕ) (owners book : List ℕ) where
       go false f = let l = or_else_most (book_refusal s owners book) 0 18 book_most (omega arith) in absurd (omega arith)
 
   module _ (passed : book_refusal s owners book ≡ 0) where
-    pub check_twins : twins owners book ≡ true → 19 ≡ check_number s owners book
-    unfolding check_number
-    check_twins e = rw (passed, e)
-
-    pub check_passed : twins owners book ≡ false → 0 ≡ check_number s owners book
-    unfolding check_number
-    check_passed e = rw (passed, e)
-
-    -- ---- the search: 3, 20
+    -- ---- the search: 20
     module _ (owner : ℕ) (wanted : List ℕ) where
-      pub search_beyond : s ≤ owner → 3 ≡ search_number s owners book owner wanted
-      unfolding search_number
-      search_beyond l = rw (passed, le-ltb owner s l)
-
       pub search_nowhere : owner < s → length owners ≤ lowest (length owners) (has owners book owner wanted) → 20 ≡ search_number s owners book owner wanted
       unfolding search_number
       search_nowhere l h =

@@ -7,7 +7,7 @@ use native.Mathlib.Omega.{arith}
 use lib.ListN.{length, get_or}
 use borrow.Author.Tests.{ltb-false}
 use Rattle.model.specs.declared.Posted.TheVariants.{Nothing}
-use Rattle.model.specs.declared.Answer.{Answer}
+use Rattle.model.specs.Answers.{Answer}
 use Rattle.model.specs.Refusals.{Twins}
 use Rattle.model.specs.Questions.{lowest}
 use Rattle.model.specs.Answers.{accepted, refused}

@@ -1,7 +1,7 @@
 -- Document 01, "The address book": the entries of a book, and the answers to its three questions.
 use Rattle.std.specs.Prelude.{ℕ, zero, suc, ◌+◌, Bool, ◌&&◌, not, cond, List, leb, ltb, eqb, length, get_or, take, drop}
 use Rattle.model.specs.declared.Posted.TheVariants.{Nothing}
-use Rattle.model.specs.declared.Answer.{Answer}
+use Rattle.model.specs.Answers.{Answer}
 use Rattle.model.specs.Refusals.{BadName, BadBook, Twins, NotListed, ◌when◌, ◌or_else◌}
 use Rattle.model.specs.Questions.{every, some, lowest}
 use Rattle.model.specs.Answers.{accepted, refused}

@@ -1,6 +1,6 @@
 -- How the code goes over a book, whatever its bytes are: a place beyond the book's end is "no entry here".
 use Rattle.std.specs.Prelude.{ℕ, zero, suc, ◌+◌, Bool, ◌&&◌, cond, List, leb, eqb, length, get_or, take, drop}
-use Rattle.book.specs.Book.{same, entry_at, address_number}
+use Rattle.book.specs.Book.{same}
 
 -- past the entry at a place; beyond the book's end where none of this length or more ends in the book
 unfoldable pub entry_end : ℕ → List ℕ → ℕ → ℕ
@@ -21,7 +21,3 @@ holds book address at = leb (entry_end 1 book at) (length book) && same (take (g
 -- the walk finds this owner and this address at pointer p
 unfoldable pub meets : List ℕ → List ℕ → ℕ → List ℕ → ℕ → Bool
 meets owners book owner address p = eqb (get_or owners p 0) owner && holds book address (walked 1 book 0 p)
-
--- where the entry of a pointer starts; the book's length, where none does, after a refusal
-unfoldable pub entry_place : ℕ → List ℕ → List ℕ → ℕ → ℕ
-entry_place s owners book p = cond (eqb (address_number s owners book p) 0) (entry_at book p) (length book)

@@ -5,111 +5,81 @@ mod bytes;
 mod find;
 mod walk;
 
-ghost use Rattle.std.specs.Prelude.{◌≡◌};
+ghost use Rattle.std.specs.Prelude.{◌≡◌, ◌+◌, ◌≤◌, length, slice_index, IfOk};
+ghost use Rattle.rules.specs.Turned.{number_in, told};
 ghost use Rattle.book.specs.Part.{seen};
-ghost use Rattle.book.specs.Book.{book_refusal, address_number, address_part, check_answer, search_answer};
-ghost use Rattle.book.specs.Walk.{entry_place};
+ghost use Rattle.book.specs.Book.{entry_at, book_refusal, address_number, address_part, check_answer, search_answer};
 
 use crate::find::{has_twins, lowest};
 use crate::walk::{SHORTEST, walk};
-use model::{Answer, Posted};
-use rules::answer::{accepted, refused};
+use model::Posted;
+use rules::answer::Accepted;
+use rules::refusal::{Refusal, when};
 use tables::owners::owners_refusal;
 
+#[tactic(auto, using(crate::proofs::TurnedLaws::refusing, crate::proofs::RefusalLaws::walked_whole), unfolding(crate::specs::Book::book_refusal))]
 // 1, 2 of S and the owners, then 18.
-fn book_refusal(s: u8, owners: &[u8], book: &[u8]) -> u8
-    ensures { result ≡ book_refusal s owners.now book.now }
+fn book_refusal(s: u8, owners: &[u8], book: &[u8]) -> Result<(), Refusal>
+    ensures { number_in result ≡ book_refusal s owners.now book.now }
 {
-    let n = owners_refusal(s, owners);
-    if n != 0 {
-        return n;
-    }
-    if walk(SHORTEST, book, 0, owners.len()) != book.len() {
-        return 18;
-    }
-    0
+    owners_refusal(s, owners)?;
+    let whole = walk(SHORTEST, book, owners.len()) == Some(book.len());
+    when(Refusal::BadBook, !whole)
 }
 
-// The question for an address: its number.
-pub fn address_number(s: u8, owners: &[u8], book: &[u8], pointer: u8) -> u8
-    ensures { result ≡ address_number s owners.now book.now pointer }
+#[tactic(auto, using(crate::proofs::RefusalLaws::address_told))]
+// The question for an address: 1, 2, 18, then 3.
+fn address_refusal(s: u8, owners: &[u8], book: &[u8], pointer: u8) -> Result<(), Refusal>
+    ensures { number_in result ≡ address_number s owners.now book.now pointer }
 {
-    let n = book_refusal(s, owners, book);
-    if n != 0 {
-        return n;
-    }
-    if owners.len() <= (pointer as usize) {
-        return 3;
-    }
-    0
+    book_refusal(s, owners, book).and(when(Refusal::BadName, owners.len() <= (pointer as usize)))
 }
 
-// Where the entry of a pointer starts; the book's length, where none does, after a refusal.
-pub fn entry_place(s: u8, owners: &[u8], book: &[u8], pointer: u8) -> usize
-    ensures { result ≡ entry_place s owners.now book.now pointer }
+#[tactic(auto, using(crate::proofs::RefusalLaws::place_found, crate::proofs::AddressLaws::place_inside))]
+// Where the entry of a pointer starts; in a book that has passed 18 the walk finds it.
+pub fn entry_place(s: u8, owners: &[u8], book: &[u8], pointer: u8) -> Result<usize, Refusal>
+    ensures number { number_in result ≡ address_number s owners.now book.now pointer }
+    ensures place { IfOk result (λ at. at ≡ entry_at book.now pointer) }
+    ensures inside { IfOk result (λ at. at + 1 + slice_index book.now at ≤ length book.now) }
 {
-    if owners_refusal(s, owners) != 0 {
-        return book.len();
-    }
-    let g = owners.len();
-    let p = pointer as usize;
-    if g <= p {
-        return book.len();
-    }
-    let at = walk(SHORTEST, book, 0, p);
-    if walk(SHORTEST, book, at, g - p) != book.len() {
-        return book.len();
-    }
-    at
+    address_refusal(s, owners, book, pointer)?;
+    walk(SHORTEST, book, pointer as usize).ok_or(Refusal::BadBook)
 }
 
-// The question for an address: the address as that part of the lent book; after a refusal the part is empty.
-pub fn address<'a>(s: u8, owners: &[u8], book: &'a [u8], pointer: u8) -> &'a [u8]
-    ensures { seen result ≡ address_part s owners.now (seen book.entry) pointer }
+#[tactic(auto, using(crate::proofs::AddressLaws::part_given_lem))]
+// The question for an address: the address as that part of the lent book.
+pub fn address<'a>(s: u8, owners: &[u8], book: &'a [u8], pointer: u8) -> Result<&'a [u8], Refusal>
+    ensures number { number_in result ≡ address_number s owners.now book.entry.now pointer }
+    ensures part { IfOk result (λ part. seen part ≡ address_part s owners.now (seen book.entry) pointer) }
 {
-    let at = entry_place(s, owners, book, pointer);
-    if at == book.len() {
-        return &book[0..0];
-    }
+    let at = entry_place(s, owners, book, pointer)?;
     let start = at + 1;
     let end = start + (book[at] as usize);
-    &book[start..end]
+    Ok(&book[start..end])
 }
 
+#[tactic(auto, using(crate::proofs::TurnedLaws::refusing, crate::proofs::RefusalLaws::book_passed, crate::proofs::AnswerLaws::telling), unfolding(crate::specs::Book::check_number, crate::specs::Book::check_answer))]
 // A check of the book.
-pub fn check(s: u8, owners: &[u8], book: &[u8]) -> Answer
-    ensures { result ≡ check_answer s owners.now book.now }
+pub fn check(s: u8, owners: &[u8], book: &[u8]) -> Result<Accepted, Refusal>
+    ensures { told result ≡ check_answer s owners.now book.now }
 {
-    let n = book_refusal(s, owners, book);
-    if n != 0 {
-        return refused(n);
-    }
-    if has_twins(owners, book) {
-        return refused(19);
-    }
-    accepted(0, Posted::Nothing)
+    book_refusal(s, owners, book)?;
+    when(Refusal::Twins, has_twins(owners, book))?;
+    Ok(Accepted::new(0, Posted::Nothing))
 }
 
+#[tactic(auto, using(crate::proofs::TurnedLaws::refusing, crate::proofs::AnswerLaws::telling), unfolding(crate::specs::Book::search_number, crate::specs::Book::search_answer))]
 // A search by owner and whole address.
-pub fn search(s: u8, owners: &[u8], book: &[u8], owner: u8, wanted: &[u8]) -> Answer
-    ensures { result ≡ search_answer s owners.now book.now owner wanted.now }
+pub fn search(
+    s: u8,
+    owners: &[u8],
+    book: &[u8],
+    owner: u8,
+    wanted: &[u8],
+) -> Result<Accepted, Refusal>
+    ensures { told result ≡ search_answer s owners.now book.now owner wanted.now }
 {
-    let n = owners_refusal(s, owners);
-    if n != 0 {
-        return refused(n);
-    }
-    let g = owners.len();
-    let found = lowest(g, owners, book, owner, wanted);
-    let p = found.pointer;
-    let at = found.at;
-    if walk(SHORTEST, book, at, g - p) != book.len() {
-        return refused(18);
-    }
-    if s <= owner {
-        return refused(3);
-    }
-    if p == g {
-        return refused(20);
-    }
-    accepted(p as u16, Posted::Nothing)
+    book_refusal(s, owners, book).and(when(Refusal::BadName, s <= owner))?;
+    let p = lowest(owners, book, owner, wanted).ok_or(Refusal::NotListed)?;
+    Ok(Accepted::new(p as u16, Posted::Nothing))
 }

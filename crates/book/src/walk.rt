@@ -1,35 +1,30 @@
 // Over the entries of a book (Document 01, The address book).
-ghost use Rattle.std.specs.Prelude.{◌≡◌};
+ghost use Rattle.std.specs.Prelude.{◌≡◌, ◌+◌, ◌<◌, ◌≤◌, length, IfSome};
+ghost use Rattle.std.specs.Option.{unwrap_or};
 ghost use Rattle.book.specs.Walk.{entry_end, walked};
 
 // An address is 1 to 255 bytes.
 pub const SHORTEST: u8 = 1;
 
-// Past the entry at a place: a length byte of least or more, then as many bytes. Beyond the book's end where there is none.
-pub fn entry_end(least: u8, book: &[u8], at: usize) -> usize
-    ensures { result ≡ entry_end least book.now at }
+#[tactic(auto, using(crate::proofs::EntryLaws::entry_end_beyond), unfolding(crate::specs::Walk::entry_end))]
+// Past the entry at a place: a length byte of least or more (0 in the second book of Document 02, Eight), then as many bytes.
+pub fn entry_end(least: u8, book: &[u8], at: usize) -> Option<usize>
+    ensures place { unwrap_or result (length book.now + 1) ≡ entry_end least book.now at }
+    ensures inside { IfSome result (λ end. (at < end) × (end ≤ length book.now)) }
 {
-    let none = book.len() + 1;
-    if book.len() <= at {
-        return none;
-    }
-    let n = book[at];
+    let n = *book.get(at)?;
     let end = at + 1 + (n as usize);
-    if (least <= n) & (end <= book.len()) {
-        return end;
-    }
-    none
+    (least <= n && end <= book.len()).then_some(end)
 }
 
-// Past n entries, the first of them at a place.
-pub fn walk(least: u8, book: &[u8], from: usize, n: usize) -> usize
-    ensures { result ≡ walked least book.now from n }
+// Past n entries, from the book's start.
+pub fn walk(least: u8, book: &[u8], n: usize) -> Option<usize>
+    ensures place { unwrap_or result (length book.now + 1) ≡ walked least book.now 0 n }
+    ensures inside { IfSome result (λ end. end ≤ length book.now) }
 {
-    let mut at = from;
-    let mut i = 0;
-    while i < n {
-        at = entry_end(least, book, at);
-        i += 1;
+    let mut at = 0;
+    for _ in 0..n {
+        at = entry_end(least, book, at)?;
     }
-    at
+    Some(at)
 }

@@ -8,15 +8,12 @@ use std::io::{self, Read, Write};
 // Where nothing came: whether the input can be read at all is asked by a read of no bytes, and told if not.
 fn tell_unreadable(rt: &HostRuntime) {
     let mut none = [0u8; 0];
-    match rt.stdin().read(&mut none) {
-        Ok(_) => {}
-        Err(_) => match eprintln!(rt; "desk: the input cannot be read") {
-            Ok(()) | Err(_) => {}
-        },
+    if rt.stdin().read(&mut none).is_err() {
+        let _ = eprintln!(rt; "desk: the input cannot be read");
     }
 }
 
-// How many bytes of the input there are, as far as the buffer has room; a read that fails ends the input.
+// How many bytes of the input there are, as far as the buffer has room; a read that fails ends the input. No index is counted: a turn reads as much as comes.
 fn read_full(rt: &HostRuntime, buffer: &mut [u8]) -> usize
     ensures within { result ≤ length buffer.new }
     ensures same_length { length buffer.new ≡ length buffer.old }
@@ -24,9 +21,8 @@ fn read_full(rt: &HostRuntime, buffer: &mut [u8]) -> usize
     let mut input = rt.stdin();
     let mut n = 0;
     while n < buffer.len() {
-        let count = match input.read(&mut buffer[n..]) {
-            Ok(count) => count,
-            Err(_) => break,
+        let Ok(count) = input.read(&mut buffer[n..]) else {
+            break;
         };
         if count == 0 {
             break;
@@ -36,7 +32,7 @@ fn read_full(rt: &HostRuntime, buffer: &mut [u8]) -> usize
     n
 }
 
-// 8,193 bytes tell that an input is too long; a reader that goes away ends the writing.
+// The memory is fixed. 8,193 bytes tell that an input is too long; a reader that goes away ends the writing.
 fn main(rt: HostRuntime) {
     let mut input = [0u8; 8193];
     let mut output = [0u8; 139264];
@@ -45,7 +41,5 @@ fn main(rt: HostRuntime) {
         tell_unreadable(&rt);
     }
     let m = runner::run(&input[..n], &mut output);
-    match io::writer(&rt).write_all(&output[..m]) {
-        Ok(()) | Err(_) => {}
-    }
+    let _ = io::writer(&rt).write_all(&output[..m]);
 }

@@ -1,48 +1,28 @@
 -- No two outcomes meet the promise of the writer of a line, or of a reader.
-use Prim.Native.Nat.{ℕ}
-use mathlib.Core.Path.{◌≡◌}
-use mathlib.Core.List.{List}
+use Rattle.std.proofs.Common.{◌≡◌, ℕ, List, Option, Some, None, Result, refl, sym, ap, ◌∙◌}
+use Rattle.std.specs.Option.{option_map}
+use Rattle.std.specs.Iterator.{YieldsFirstRef}
 use denote.Ref.{Bor}
-use Rattle.model.specs.declared.Answer.{Answer}
 use Rattle.model.specs.declared.Call.{Call}
-use Rattle.model.specs.declared.Next.{Next}
-use Rattle.model.specs.Lines.{next_at, write_call}
-use Rattle.model.specs.Places.{moved_to}
-use Rattle.lines.specs.declared.reader.Reader.{Reader}
-use Rattle.lines.specs.Reading.{started, answer_of, moved_on}
+use Rattle.model.specs.Lines.{write_call}
 use Rattle.model.proofs.OneOutcome.{one_answer, one_answer_one_memory}
+use Rattle.rules.specs.declared.refusal.Refusal.{Refusal}
+use Rattle.rules.specs.declared.answer.Accepted.{Accepted}
+use Rattle.rules.specs.Turned.{told}
+use Rattle.rules.proofs.OneAnswer.{same_told}
+use Rattle.lines.specs.declared.reader.Reader.{Reader}
+use Rattle.lines.specs.Reading.{started, moved_on, lines_left, GivesRead}
+use Rattle.lines.specs.Said.{next_of}
+use Rattle.lines.proofs.OneAnswer.{same_next}
 
 -- ---- the writer
 module _ (text : List ℕ) (call : Call) where
   -- what `write::write_call` promises
-  abbrev pub WritePromise : Answer → List ℕ → Type 0
-  WritePromise r text' = record { answer = r; desk = text' } ≡ write_call text call
+  abbrev pub WritePromise : Result Accepted Refusal → List ℕ → Type 0
+  WritePromise r text' = record { answer = told r; desk = text' } ≡ write_call text call
 
-  pub no_two_writes : {r q : Answer} {text' text'' : List ℕ} → WritePromise r text' → WritePromise q text'' → (r ≡ q) × (text' ≡ text'')
-  no_two_writes e f = one_answer_one_memory e f
-
--- ---- a reader at a place
-module _ (text : List ℕ) where
-  -- what `reader::next_from` promises
-  abbrev pub NextFromPromise : ℕ → Next → Type 0
-  NextFromPromise at r = r ≡ next_at text at
-
-  pub no_two_next_from : (at : ℕ) {r q : Next} → NextFromPromise at r → NextFromPromise at q → r ≡ q
-  no_two_next_from at e f = one_answer e f
-
-  -- what `reader::past_from` promises
-  abbrev pub PastFromPromise : ℕ → ℕ → Type 0
-  PastFromPromise at r = r ≡ moved_to at (next_at text at)
-
-  pub no_two_past_from : (at : ℕ) {r q : ℕ} → PastFromPromise at r → PastFromPromise at q → r ≡ q
-  no_two_past_from at e f = one_answer e f
-
-  -- what `reader::past_first` promises
-  abbrev pub PastFirstPromise : ℕ → Type 0
-  PastFirstPromise r = r ≡ moved_to 0 (next_at text 0)
-
-  pub no_two_past_first : {r q : ℕ} → PastFirstPromise r → PastFirstPromise q → r ≡ q
-  no_two_past_first e f = one_answer e f
+  pub no_two_writes : {r q : Result Accepted Refusal} {text' text'' : List ℕ} → WritePromise r text' → WritePromise q text'' → (r ≡ q) × (text' ≡ text'')
+  no_two_writes {r} {q} e f = let same = one_answer_one_memory e f in (same_told r q same.0, same.1)
 
 -- ---- a reader: what is lent to it is handed on, the text itself
 module _ (text : Bor (List ℕ)) where
@@ -54,16 +34,23 @@ module _ (text : Bor (List ℕ)) where
   no_two_new e f = one_answer e f
 
 module _ (self : Reader) where
-  -- what `reader::next` promises
-  abbrev pub NextPromise : Next → Type 0
-  NextPromise r = r ≡ answer_of self
+  -- what `reader::next` promises, of what it answers and of where it stands then
+  abbrev pub NextPromise : Option (Result Call Refusal) → Reader → Type 0
+  NextPromise r self' = GivesRead self r self'
 
-  pub no_two_next : {r q : Next} → NextPromise r → NextPromise q → r ≡ q
-  no_two_next e f = one_answer e f
+  pub no_two_next : {r q : Option (Result Call Refusal)} {self' self'' : Reader} → NextPromise r self' → NextPromise q self'' → (r ≡ q) × (self' ≡ self'')
+  no_two_next {r} {q} {self'} {self''} e f =
+      let moved = one_answer e.moved f.moved in
+      let said = e.said ∙ sym f.said ∙ ap (λ (at : ℕ). next_of q at) (ap (λ (reader : Reader). reader.at) (sym moved)) in
+      (same_next r q self'.at said, moved)
 
-  -- what `reader::moved` promises
-  abbrev pub MovedPromise : Reader → Type 0
-  MovedPromise r = r ≡ moved_on self
+  -- what `reader::line` promises, of the characters that it hands out and of where it stands then
+  abbrev pub LinePromise : Option (Bor (List ℕ)) → Reader → Type 0
+  LinePromise r self' = YieldsFirstRef lines_left self r self' × (self' ≡ moved_on self)
 
-  pub no_two_moved : {r q : Reader} → MovedPromise r → MovedPromise q → r ≡ q
-  no_two_moved e f = one_answer e f
+  pub no_two_lines : (r q : Option (Bor (List ℕ))) {self' self'' : Reader} → LinePromise r self' → LinePromise q self''
+      → (option_map (λ (line : Bor (List ℕ)). line.now) r ≡ option_map (λ (line : Bor (List ℕ)). line.now) q) × (self' ≡ self'')
+  no_two_lines (Some a) (Some b) e f = let same : a.now ≡ b.now = cc in (ap Some same, one_answer e.1 f.1)
+  no_two_lines (Some a) None e f = cc
+  no_two_lines None (Some b) e f = cc
+  no_two_lines None None e f = (refl, one_answer e.1 f.1)

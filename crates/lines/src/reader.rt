@@ -1,59 +1,30 @@
 // The reader of a text, line after line (Document 01, Lines).
-ghost use Rattle.std.specs.Prelude.{◌≡◌, cond, ◌+◌, ltb, length};
-ghost use Rattle.model.specs.Lines.{end_at, next_at};
-ghost use Rattle.model.specs.Places.{moved_to};
-ghost use Rattle.lines.specs.Reading.{started, answer_of, moved_on};
+ghost use Rattle.std.specs.Prelude.{◌≡◌, ◌==◌, ◌+◌, take, drop, position};
+ghost use Rattle.std.specs.Iterator.{YieldsFirstRef, item_count};
+ghost use Rattle.model.specs.Lines.{newline, width};
+ghost use Rattle.lines.specs.Reading.{started, moved_on, lines_left, GivesRead};
 
 use crate::line::read_line;
-use model::Next;
+use model::Call;
+use rules::refusal::Refusal;
 
-// Where the line that starts at a place ends.
-pub fn line_end(text: &[u8], at: usize) -> usize
-    ensures { result ≡ end_at text.now at }
+// The place of the first newline.
+fn first_newline(text: &[u8]) -> Option<usize>
+    ensures { result ≡ position (λ c. c == newline) text.now }
 {
-    let mut end = at;
-    while end < text.len() {
-        if text[end] == b'\n' {
-            return end;
-        }
-        end += 1;
-    }
-    end
+    text.iter().position(|c| *c == b'\n')
 }
 
-// Past the newline of a line that ends at a place, or at the end of the text if there is none.
-fn past_newline(text: &[u8], end: usize) -> usize
-    ensures { result ≡ cond (ltb end (length text.now)) (end + 1) (length text.now) }
+#[tactic(auto, using(crate::proofs::WidthLaws::width_is_position, std::proofs::lemmas::Grind::common_steps))]
+// The first line, and what follows its newline: nothing if there is none.
+fn split_line(text: &[u8]) -> (&[u8], &[u8])
+    ensures line { result.0.now ≡ take (width text.now) text.now }
+    ensures rest { result.1.now ≡ drop (width text.now + 1) text.now }
 {
-    if end < text.len() {
-        end + 1
-    } else {
-        text.len()
+    match first_newline(text) {
+        Some(end) => (&text[..end], &text[end + 1..]),
+        None => text.split_at(text.len()),
     }
-}
-
-// What the reader answers at a place, any place: the line that starts there, or that it has ended.
-pub(crate) fn next_at(text: &[u8], at: usize) -> Next
-    ensures { result ≡ next_at text.now at }
-{
-    if text.len() <= at {
-        return Next::Ended;
-    }
-    let end = line_end(text, at);
-    Next::Line {
-        read: read_line(&text[at..end]),
-        at: past_newline(text, end),
-    }
-}
-
-// Where that answer leaves the reader: past the line; at the end it stays.
-pub(crate) fn past_at(text: &[u8], at: usize) -> usize
-    ensures { result ≡ moved_to at (next_at text.now at) }
-{
-    if text.len() <= at {
-        return at;
-    }
-    past_newline(text, line_end(text, at))
 }
 
 // A reader stands over the lent text and knows how far it has come.
@@ -71,41 +42,32 @@ impl<'a> Reader<'a> {
         Reader { text, at: 0 }
     }
 
-    // What it answers where it stands; it does not move.
-    pub fn next(self) -> Next
-        ensures { result ≡ answer_of self.entry }
+    #[tactic(auto, using(model::proofs::LineLaws::no_lines, crate::proofs::PlaceLaws::lines_past, crate::proofs::PlaceLaws::moved_past, crate::proofs::PlaceLaws::moved_nowhere))]
+    // The characters of the next line, and it moves past that line; at the end it stays.
+    pub fn line(&mut self) -> Option<&'a [u8]>
+        ensures line { YieldsFirstRef lines_left self.old result self.new }
+        ensures place { self.new ≡ moved_on self.old }
     {
-        next_at(self.text, self.at)
-    }
-
-    // Past the line where it stands; at the end it stays.
-    pub fn moved(self) -> Reader<'a>
-        ensures { result ≡ moved_on self.entry }
-    {
-        Reader {
-            text: self.text,
-            at: past_at(self.text, self.at),
+        if self.text.len() <= self.at {
+            return None;
         }
+        let (_, left) = self.text.split_at(self.at);
+        let (line, rest) = split_line(left);
+        self.at = self.text.len() - rest.len();
+        Some(line)
     }
 }
 
-// What a reader that stands at a place answers, any place.
-pub fn next_from(text: &[u8], at: usize) -> Next
-    ensures { result ≡ next_at text.now at }
-{
-    Reader { text, at }.next()
-}
+// What each line says, a call or a refusal, which does not stop it.
+impl<'a> Iterator for Reader<'a> {
+    type Item = Result<Call, Refusal>;
 
-// Where it stands then: past the line; at the end it stays.
-pub fn past_from(text: &[u8], at: usize) -> usize
-    ensures { result ≡ moved_to at (next_at text.now at) }
-{
-    Reader { text, at }.moved().at
-}
+    ghost next_gives = { GivesRead };
 
-// Where a reader stands past the first line of a text, which opens.
-pub fn past_first(text: &[u8]) -> usize
-    ensures { result ≡ moved_to 0 (next_at text.now 0) }
-{
-    Reader::new(text).moved().at
+    ghost remaining = { item_count lines_left };
+
+    #[tactic(auto, using(crate::proofs::NextLaws::answers_none, crate::proofs::NextLaws::answers_line))]
+    fn next(&mut self) -> Option<Result<Call, Refusal>> {
+        self.line().map(read_line)
+    }
 }

@@ -9,7 +9,7 @@ use lib.ListN.{length}
 use borrow.Author.Tests.{lt-ltb, eq-eqb, ltb-true, leb-false, eqb-true, eqb-false, not-false}
 use Rattle.model.proofs.TestLaws.{and_both, or_neither, when_not, or_else_none, or_else_assoc}
 use Rattle.model.specs.declared.Call.{Call}
-use Rattle.model.specs.declared.Read.TheVariants.{Said, Refused}
+use Rattle.model.specs.Lines.{Said, Refused}
 use Rattle.model.specs.Refusals.{BadLine, UnknownCode, PrivateCode, ◌when◌, ◌or_else◌}
 use Rattle.model.specs.Lines.{byte_at, bytes_of, call_of, line_refusal, said_unless, read_bytes, read_line}
 

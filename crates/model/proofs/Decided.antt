@@ -5,7 +5,7 @@ use mathlib.Core.Logic.{◌≢◌}
 use lib.Dec.{ltb}
 use Rattle.model.specs.declared.Posted.{Posted}
 use Rattle.model.specs.declared.Posted.TheVariants.{Nothing}
-use Rattle.model.specs.declared.Effect.{Effect}
+use Rattle.model.specs.Messages.{Effect}
 use Rattle.model.specs.Refusals.{EmptySlot, ◌when◌, ◌or_else◌}
 use Rattle.model.specs.Messages.{receiver, pointer_of, receive_refusal, counter_after, cell_after, reply, effect_unless, decided}
 use Rattle.model.specs.Answers.{accepted, Outcome, unless}

@@ -9,7 +9,7 @@ use lib.Dec.{eqb}
 use borrow.Author.Tests.{eq-eqb, ne_eqb, eqb-true, lt-ltb, not-true}
 use Rattle.moreau.proofs.Quiet.{zero_iff_quiet}
 use Rattle.model.specs.declared.Posted.TheVariants.{Nothing}
-use Rattle.model.specs.declared.Answer.{Answer}
+use Rattle.model.specs.Answers.{Answer}
 use Rattle.model.specs.declared.Call.TheVariants.{Ask}
 use Rattle.model.specs.Refusals.{◌when◌}
 use Rattle.model.specs.Answers.{accepted}

@@ -10,7 +10,7 @@ use lib.Dec.{eqb, ltb}
 use lib.ListN.{length, get_or, drop, length-drop}
 use lib.Seq.{drop-drop, get_or-drop, ext_get_or}
 use borrow.Author.Tests.{ltb-true, ltb-false}
-use Rattle.model.specs.declared.Next.TheVariants.{Ended}
+use Rattle.model.specs.Lines.{Ended}
 use Rattle.model.specs.Lines.{newline, onto, lines_of, line_at, past_at, next_at}
 use Rattle.model.proofs.QuestionLaws.{length_up_to, up_to_at}
 use Rattle.model.specs.Places.{moved_to, place_after, visited, EachLineOnce}

@@ -6,8 +6,8 @@ use mathlib.Core.List.{List}
 use lib.Dec.{eqb, leb}
 use lib.ListN.{length, get_or, set}
 use borrow.Author.Tests.{eqb-false, leb-false}
-use Rattle.model.specs.declared.Answer.{Answer}
-use Rattle.model.specs.declared.Empties.{Empties}
+use Rattle.model.specs.Answers.{Answer}
+use Rattle.model.specs.Tables.{Empties}
 use Rattle.model.specs.declared.Posted.{Posted}
 use Rattle.model.specs.declared.Posted.TheVariants.{Copy, Dec, Nothing}
 use Rattle.model.specs.Refusals.{SameSite, NotHeld, CounterFull, PoolFull, IsOwner, StillCounted, ◌when◌, ◌or_else◌}

@@ -9,8 +9,8 @@ use lib.Dec.{eqb, ltb}
 use lib.ListN.{length, get_or, take, drop, length-drop, drop_of_length-le}
 use lib.Seq.{drop-cons, drop-drop}
 use borrow.Author.Tests.{lt-ltb, le-ltb, eq-eqb, ne_eqb, ltb-true, ltb-false}
-use Rattle.model.specs.declared.Read.{Read}
-use Rattle.model.specs.declared.Next.TheVariants.{Line, Ended}
+use Rattle.model.specs.Lines.{Read}
+use Rattle.model.specs.Lines.{Line, Ended}
 use Rattle.model.specs.Lines.{newline, read_line, onto, lines_of, width, end_at, line_at, past_at, next_at}
 
 -- ---- the end of a line, by steps

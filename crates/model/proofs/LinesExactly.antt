@@ -11,7 +11,7 @@ use lib.ListN.{length, get_or, length-replicate}
 use borrow.Author.Tests.{eqb-true, eqb-false, eq-eqb, ne_eqb, leb-true, leb-false, le-leb, lt-leb, ltb-true, ltb-false, lt-ltb, le-ltb, not-true, not-false}
 use Rattle.model.specs.declared.Posted.TheVariants.{Nothing}
 use Rattle.model.specs.declared.Call.{Call}
-use Rattle.model.specs.declared.Read.TheVariants.{Refused}
+use Rattle.model.specs.Lines.{Refused}
 use Rattle.model.specs.Refusals.{BadLine, TooLong, ◌when◌, ◌or_else◌}
 use Rattle.model.specs.Questions.{every}
 use Rattle.model.specs.Answers.{accepted, refused, Outcome, unless}

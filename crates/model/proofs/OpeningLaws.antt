@@ -5,7 +5,7 @@ use mathlib.Core.Bool.{Bool, true, false, not}
 use lib.Dec.{eqb}
 use borrow.Author.Tests.{not-false}
 use Rattle.moreau.specs.StateSpace.{initial}
-use Rattle.model.specs.declared.Answer.{Answer}
+use Rattle.model.specs.Answers.{Answer}
 use Rattle.model.specs.declared.Posted.TheVariants.{Nothing}
 use Rattle.model.specs.Refusals.{BadShape, BadTable, ◌when◌, ◌or_else◌}
 use Rattle.model.specs.Answers.{accepted, refused, Outcome}

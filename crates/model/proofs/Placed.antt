@@ -5,7 +5,7 @@ use mathlib.Core.Logic.{◌≢◌}
 use Rattle.moreau.specs.Transformers.{assign}
 use Rattle.model.specs.declared.Posted.{Posted}
 use Rattle.model.specs.declared.Posted.TheVariants.{Copy, Dec as Decr, IncDec, Nothing}
-use Rattle.model.specs.declared.Answer.{Answer}
+use Rattle.model.specs.Answers.{Answer}
 use Rattle.model.specs.declared.Call.TheVariants.{MakeCopy, Receive, Delete}
 use Rattle.model.specs.Messages.{receiver, pointer_of, counter_after, cell_after, reply}
 use Rattle.model.specs.Layout.{Layout}

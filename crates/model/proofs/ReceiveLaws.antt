@@ -6,9 +6,9 @@ use mathlib.Core.List.{List}
 use lib.Dec.{ltb}
 use lib.ListN.{length, get_or, set}
 use borrow.Author.Tests.{ltb-true}
-use Rattle.model.specs.declared.Answer.{Answer}
+use Rattle.model.specs.Answers.{Answer}
 use Rattle.model.specs.declared.Posted.{Posted}
-use Rattle.model.specs.declared.Effect.{Effect}
+use Rattle.model.specs.Messages.{Effect}
 use Rattle.model.specs.Refusals.{EmptySlot, ◌when◌, ◌or_else◌}
 use Rattle.model.specs.Messages.{is_nothing, receiver, pointer_of, receive_refusal, counter_after, cell_after, reply, effect_unless, decided}
 use Rattle.model.specs.Answers.{accepted, Outcome, unless}

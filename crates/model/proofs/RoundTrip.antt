@@ -10,8 +10,8 @@ use lib.Seq.{sets, sets-eq, take_at}
 use borrow.Author.Tests.{lt-ltb, le-ltb, eqb-true}
 use Rattle.model.specs.declared.Call.{Call}
 use Rattle.model.specs.declared.Call.TheVariants.{MakeCopy, Receive, Delete, Ask}
-use Rattle.model.specs.declared.Read.TheVariants.{Said, Refused}
-use Rattle.model.specs.declared.Next.TheVariants.{Line}
+use Rattle.model.specs.Lines.{Said, Refused}
+use Rattle.model.specs.Lines.{Line}
 use Rattle.model.specs.Refusals.{BadLine}
 use Rattle.model.specs.Lines.{newline, digits_of, byte_at, bytes_of, line_of, write_call, line_refusal, read_bytes, read_line, next_at}
 use Rattle.model.specs.Fields.{FieldsFit}

@@ -10,7 +10,7 @@ use lib.IntN.{pos}
 use borrow.Author.Tests.{eq-eqb, ne_eqb, ltb-true}
 use Rattle.model.specs.declared.Posted.{Posted}
 use Rattle.model.specs.declared.Posted.TheVariants.{Copy, Dec as Decr, Nothing}
-use Rattle.model.specs.declared.Answer.{Answer}
+use Rattle.model.specs.Answers.{Answer}
 use Rattle.model.specs.declared.Call.{Call}
 use Rattle.model.specs.declared.Call.TheVariants.{MakeCopy, Receive, Delete, Ask}
 use Rattle.model.specs.Refusals.{◌when◌, ◌or_else◌}

@@ -22,7 +22,7 @@ module _ {R Q : Type 0} (T : ReceiveTable R) (P : Pool Q) where
     abbrev slots_good : Bool
     slots_good = P.slots_good d.S (length d.owners) d.pool
 
-    slots_last : lent_refusal (desk_of T P) d ≡ tables_refusal d or_else BadTable when not slots_good
+    pub slots_last : lent_refusal (desk_of T P) d ≡ tables_refusal d or_else BadTable when not slots_good
     unfolding lent_refusal
     slots_last = go ((desk_of T P).shaped d) (all_below d.S d.owners && T.bits d.S d.receive) slots_good
       where

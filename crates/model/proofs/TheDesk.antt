@@ -12,12 +12,12 @@ use Rattle.moreau.specs.Transformers.{assign, MayCopy, MayReceive, MayDelete}
 use Rattle.moreau.specs.Transitions.{PaperGuard, Reachable}
 use Rattle.moreau.proofs.Reached.{standing_lasts, reachable_lasts}
 use Rattle.model.specs.declared.Posted.TheVariants.{Copy, Dec as Decr, IncDec, Nothing}
-use Rattle.model.specs.declared.Answer.{Answer}
+use Rattle.model.specs.Answers.{Answer}
 use Rattle.model.specs.declared.Call.{Call}
 use Rattle.model.specs.declared.Call.TheVariants.{MakeCopy, Receive, Delete, Ask}
-use Rattle.model.specs.declared.Read.{Read}
-use Rattle.model.specs.declared.Read.TheVariants.{Said}
-use Rattle.model.specs.declared.Next.TheVariants.{Line}
+use Rattle.model.specs.Lines.{Read}
+use Rattle.model.specs.Lines.{Said}
+use Rattle.model.specs.Lines.{Line}
 use Rattle.model.specs.Refusals.{Held, ◌when◌}
 use Rattle.model.specs.Answers.{accepted, accepted_telling, refused}
 use Rattle.model.specs.Calls.{held_refusal, lowest_empty, empty_slots, lent_refusal, open_desk, replied, step, counter_there, cell_there}

@@ -7,9 +7,9 @@ use native.Mathlib.Nat.{not-suc-le-zero, le_of_suc-le-suc}
 use native.Mathlib.Omega.{arith}
 use lib.ListN.{length, get_or, take, drop, length-append}
 use lib.Seq.{take-append_seam, drop-append-add}
-use Rattle.model.specs.declared.Answer.{Answer}
-use Rattle.model.specs.declared.Read.{Read}
-use Rattle.model.specs.declared.Read.TheVariants.{Said, Refused}
+use Rattle.model.specs.Answers.{Answer}
+use Rattle.model.specs.Lines.{Read}
+use Rattle.model.specs.Lines.{Said, Refused}
 use Rattle.model.specs.Refusals.{BadLine, ◌when◌}
 use Rattle.model.specs.Answers.{unless}
 use Rattle.model.specs.Calls.{open_desk}

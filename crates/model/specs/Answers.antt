@@ -2,7 +2,13 @@
 use Rattle.std.specs.Prelude.{ℕ, zero, suc}
 use Rattle.model.specs.declared.Posted.{Posted}
 use Rattle.model.specs.declared.Posted.TheVariants.{Nothing}
-use Rattle.model.specs.declared.Answer.{Answer}
+
+-- a refusal number (0: accepted), a value, the posted message, and how many slots were empty before a post, 0: not told (Document 02, One)
+pub record Answer : Type 0 where
+  pub number : ℕ
+  pub value : ℕ
+  pub empty : ℕ
+  pub posted : Posted
 
 -- an accepted call has number 0; most tell no count of empty slots
 abbrev pub accepted : ℕ → Posted → Answer

@@ -4,10 +4,6 @@ use Rattle.std.proofs.lemmas.List.Edits.{sets}
 use Rattle.model.specs.declared.Posted.TheVariants.{Nothing}
 use Rattle.model.specs.declared.Call.{Call}
 use Rattle.model.specs.declared.Call.TheVariants.{MakeCopy, Receive, Delete, Ask}
-use Rattle.model.specs.declared.Read.{Read}
-use Rattle.model.specs.declared.Read.TheVariants.{Said, Refused}
-use Rattle.model.specs.declared.Next.{Next}
-use Rattle.model.specs.declared.Next.TheVariants.{Line, Ended}
 use Rattle.model.specs.Refusals.{BadShape, BadLine, UnknownCode, PrivateCode, ◌when◌, ◌or_else◌}
 use Rattle.model.specs.Answers.{accepted, Outcome, unless}
 
@@ -85,6 +81,11 @@ line_refusal code a b c =
     or_else PrivateCode when leb 128 code
     or_else BadLine when (leb 2 code && leb code 4 && not (eqb c 0))
 
+-- what one line says: a call, or the number of its refusal
+pub data Read : Type 0 where
+  Said : Call → Read
+  Refused : ℕ → Read
+
 abbrev pub said_unless : ℕ → Call → Read
 said_unless zero call = Said call
 said_unless (suc n) call = Refused (suc n)
@@ -132,6 +133,11 @@ line_at text at = take (width (drop at text)) (drop at text)
 -- past that line's newline, or at the end if there is none
 abbrev pub past_at : List ℕ → ℕ → ℕ
 past_at text at = cond (ltb (end_at text at) (length text)) (end_at text at + 1) (length text)
+
+-- what a reader answers: what the next line says and the place past that line, or that it has ended
+pub data Next : Type 0 where
+  Line : Read → ℕ → Next
+  Ended : Next
 
 -- at the end of the text, where no character is left, the reader has ended
 unfoldable pub next_at : List ℕ → ℕ → Next

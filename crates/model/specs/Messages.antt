@@ -2,7 +2,6 @@
 use Rattle.std.specs.Prelude.{ℕ, zero, suc, ◌+◌, ◌-◌, Bool, true, false, ◌&&◌, cond, List, [], ◌∷◌, eqb}
 use Rattle.model.specs.declared.Posted.{Posted}
 use Rattle.model.specs.declared.Posted.TheVariants.{Copy, Dec, IncDec, Nothing}
-use Rattle.model.specs.declared.Effect.{Effect}
 use Rattle.model.specs.Refusals.{SameSite, CounterFull, CounterZero, ◌when◌, ◌or_else◌}
 
 -- Kinds: 0 empty, 1 COPY, 2 DEC, 3 INC_DEC
@@ -81,6 +80,13 @@ reply (Copy a b p) cell owner = cond (eqb cell 1) (Dec b a p) (cond (eqb a owner
 reply (Dec a b p) cell owner = Nothing
 reply (IncDec a b c p) cell owner = Dec b c p
 reply Nothing cell owner = Nothing
+
+-- what a receive decides: a refusal number (0: accepted), the receiver's counter and cell after it, and the posted message
+pub record Effect : Type 0 where
+  pub number : ℕ
+  pub counter : ℕ
+  pub cell : ℕ
+  pub posted : Posted
 
 -- what a receive decides, by its number: counter, cell and reply; after a refusal counter and cell stay, and nothing is posted
 abbrev pub effect_unless : ℕ → Posted → ℕ → ℕ → ℕ → Effect

@@ -1,7 +1,7 @@
 -- Document 01, "Lines": the places that a reader comes to, from the start of a text.
 use Rattle.std.specs.Prelude.{ℕ, zero, suc, ◌≤◌, ◌<◌, ◌≡◌, List, [], length, get_or}
-use Rattle.model.specs.declared.Next.{Next}
-use Rattle.model.specs.declared.Next.TheVariants.{Line, Ended}
+use Rattle.model.specs.Lines.{Next}
+use Rattle.model.specs.Lines.{Line, Ended}
 use Rattle.model.specs.Questions.{up_to}
 use Rattle.model.specs.Lines.{read_line, lines_of, line_at, next_at}
 

@@ -2,7 +2,6 @@
 use Rattle.std.specs.Prelude.{ℕ, zero, suc, ◌+◌, ◌&&◌, not, cond, List, [], ltb, eqb, ℤ, pos, ◌+ℤ◌, ◌-ℤ◌, get_or, replicate}
 use Rattle.model.specs.declared.Posted.{Posted}
 use Rattle.model.specs.declared.Posted.TheVariants.{Copy, Dec, IncDec, Nothing}
-use Rattle.model.specs.declared.Share.{Share}
 use Rattle.model.specs.Refusals.{IsOwner, ◌when◌, ◌or_else◌}
 use Rattle.model.specs.Questions.{total, up_to}
 use Rattle.model.specs.Messages.{kind_of, is_nothing, pointer_of, is_inc_dec}
@@ -48,6 +47,11 @@ balance plus minus = pos plus -ℤ pos minus
 unfoldable pub sumℤ : ℕ → (ℕ → ℤ) → ℤ
 sumℤ zero f = pos 0
 sumℤ (suc n) f = sumℤ n f +ℤ f n
+
+-- a share's answer: a refusal number and one signed whole number
+pub record Share : Type 0 where
+  pub number : ℕ
+  pub share : ℤ
 
 -- what stands in a row and a column of a sheet
 abbrev pub entry_of : List (List ℕ) → ℕ → ℕ → ℕ

@@ -1,7 +1,6 @@
 -- Document 01, "What the host lends": the lent parts, and what makes them good.
 use Rattle.std.specs.Prelude.{ℕ, zero, suc, ◌+◌, ◌*◌, ◌/◌, ◌%◌, Bool, ◌&&◌, not, cond, List, [], ◌++◌, map, leb, ltb, eqb, length, get_or}
 use Rattle.model.specs.declared.Posted.{Posted}
-use Rattle.model.specs.declared.Empties.{Empties}
 use Rattle.model.specs.Refusals.{BadShape, BadTable, ◌when◌, ◌or_else◌}
 use Rattle.model.specs.Questions.{every, how_many, lowest}
 use Rattle.model.specs.Messages.{message_of}
@@ -80,6 +79,11 @@ message_at w pool i = at_slot w message_of pool i
 
 abbrev pub empty_at : ℕ → List ℕ → ℕ → Bool
 empty_at w pool i = eqb (get_or pool (i * w) 0) 0
+
+-- what the search for the lowest empty slot answers: the slot, the slot count where none is empty, and how many are empty (Document 02, One)
+pub record Empties : Type 0 where
+  pub slot : ℕ
+  pub count : ℕ
 
 -- the search for the lowest empty slot, which also says how many are empty
 abbrev pub searched : ℕ → List ℕ → Empties

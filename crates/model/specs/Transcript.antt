@@ -1,8 +1,8 @@
 -- Document 01, "Lines": what the program `desk` writes for what it reads.
 use Rattle.std.specs.Prelude.{ℕ, zero, suc, ◌+◌, ◌-◌, ◌*◌, ◌/◌, ◌%◌, Bool, ◌&&◌, not, cond, List, [], ◌∷◌, ◌++◌, leb, ltb, eqb, length, take, drop, replicate}
-use Rattle.model.specs.declared.Answer.{Answer}
-use Rattle.model.specs.declared.Read.{Read}
-use Rattle.model.specs.declared.Read.TheVariants.{Said, Refused}
+use Rattle.model.specs.Answers.{Answer}
+use Rattle.model.specs.Lines.{Read}
+use Rattle.model.specs.Lines.{Said, Refused}
 use Rattle.model.specs.Refusals.{BadLine, TooLong, ◌when◌}
 use Rattle.model.specs.Questions.{every, up_to}
 use Rattle.model.specs.Messages.{slot_of}

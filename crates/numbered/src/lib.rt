@@ -1,9 +1,6 @@
-// The pool of the in-order desk: slots of seven bytes read and written, the lowest empty one, the messages in flight for one pointer counted, and the next numbers of the pairs of sites.
+// The pool of the in-order desk: the numbers of its slots of seven bytes, read and written, and the next numbers of the pairs of sites. What it shares with the base's pool is of `slots`.
 #![tactic(auto)]
 
-pub mod count;
-pub mod entries;
-pub mod lowest;
 pub mod pairs;
 pub mod post;
 pub mod slot;

@@ -1,33 +1,31 @@
 // The next numbers of the ordered pairs of sites, pair (a, b) at a x S + b (Document 02, Three).
-ghost use Rattle.std.specs.Prelude.{◌≡◌, ◌<◌, false, length};
+ghost use Rattle.std.specs.Prelude.{◌≡◌};
 ghost use Rattle.model.specs.Tables.{place};
-ghost use Rattle.model.specs.Messages.{is_nothing, sender as sender_of, receiver as receiver_of};
+ghost use Rattle.model.specs.Messages.{sender as sender_of, receiver as receiver_of};
 ghost use Rattle.in_order.specs.Ordered.{next as next_of, number_for, advanced};
+ghost use Rattle.numbered.specs.Pairs.{HasPair};
 
 use model::Posted;
 use rules::message::{is_nothing, receiver, sender};
-use std::num::wrapping_add_u16;
 use tables::place::place_of;
 
 // Where the number of a message's pair stands.
 pub fn pair_of(s: u8, m: Posted) -> usize
     ensures { result ≡ place s (sender_of m) (receiver_of m) }
 {
-    let from = sender(m);
-    let to = receiver(m);
-    place_of(s as usize, from, to)
+    place_of(s as usize, sender(m), receiver(m))
 }
 
 // Numbers wrap from 65,535 to 0.
 fn next(n: u16) -> u16
     ensures { result ≡ next_of n }
 {
-    wrapping_add_u16(n, 1)
+    n.wrapping_add(1)
 }
 
 // The number that is stored with a message: its pair's; zero where there is none.
 pub fn number_for(s: u8, numbers: &[u16], m: Posted) -> u16
-    requires { is_nothing m ≡ false → place s (sender_of m) (receiver_of m) < length numbers.now }
+    requires { HasPair s numbers.now m }
     ensures { result ≡ number_for s numbers.now m }
 {
     if is_nothing(m) {
@@ -38,14 +36,12 @@ pub fn number_for(s: u8, numbers: &[u16], m: Posted) -> u16
 
 // A message advances its pair's number; none advances nothing.
 pub fn advance(s: u8, numbers: &mut [u16], m: Posted)
-    requires { is_nothing m ≡ false → place s (sender_of m) (receiver_of m) < length numbers.old }
+    requires { HasPair s numbers.old m }
     ensures { numbers.new ≡ advanced s numbers.old m }
 {
     if is_nothing(m) {
         return;
     }
     let pair = pair_of(s, m);
-    let number = numbers[pair];
-    let after = next(number);
-    numbers[pair] = after;
+    numbers[pair] = next(numbers[pair]);
 }

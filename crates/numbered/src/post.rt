@@ -1,9 +1,8 @@
 // A message is posted with its pair's next number (Document 02, Three).
-ghost use Rattle.std.specs.Prelude.{◌≡◌, ◌+◌, ◌*◌, ◌<◌, ◌≤◌, false, length};
+ghost use Rattle.std.specs.Prelude.{◌≡◌, ◌+◌, ◌*◌, ◌≤◌, length};
 ghost use Rattle.std.proofs.lemmas.List.Edits.{sets};
-ghost use Rattle.model.specs.Tables.{place};
-ghost use Rattle.model.specs.Messages.{is_nothing, sender, receiver};
 ghost use Rattle.in_order.specs.Ordered.{numbered_slot, number_for, advanced};
+ghost use Rattle.numbered.specs.Pairs.{HasPair};
 
 use crate::pairs::{advance, number_for};
 use crate::slot::write_slot;
@@ -12,11 +11,11 @@ use model::Posted;
 // A message into a slot, with its pair's next number to post, which advances; none makes the slot empty.
 pub fn post(s: u8, pool: &mut [u8], numbers: &mut [u16], slot: usize, m: Posted)
     requires slot_in_bounds { slot * 7 + 7 ≤ length pool.old }
-    requires m_in_bounds { is_nothing m ≡ false → place s (sender m) (receiver m) < length numbers.old }
+    requires m_in_bounds { HasPair s numbers.old m }
     ensures pool_after { pool.new ≡ sets pool.old (slot * 7) (numbered_slot m (number_for s numbers.old m)) }
     ensures numbers_after { numbers.new ≡ advanced s numbers.old m }
 {
-    let number = number_for(s, &numbers[..], m);
+    let number = number_for(s, numbers, m);
     write_slot(pool, slot, m, number);
-    advance(s, numbers, m)
+    advance(s, numbers, m);
 }

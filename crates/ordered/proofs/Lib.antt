@@ -1,5 +1,2 @@
--- What the proofs of the functions cite, and what is true of what they answer.
-pub mod FrontLaws
+-- What is true of the calls.
 pub mod NoTwoOutcomes
-pub mod NoTwoAnswers
-pub mod ShareAndSheet

@@ -1,11 +1,7 @@
-// The in-order desk: a byte for each receive cell, slots of seven bytes, and the next numbers of each pair of sites. Tests 1 to 3 and 8, opening, ask, share and sheet.
+// The calls of the in-order desk (Document 02, Three): an opening, make copy, receive and delete, over slots of seven bytes and the next numbers of each pair of sites. What a call decides is `lent`'s; here it is written.
 #![tactic(auto)]
 
-pub mod ask;
-pub mod counted;
-pub mod front;
-pub mod lent;
+pub mod copy;
+pub mod delete;
 pub mod opening;
-pub mod shape;
-pub mod share;
-pub mod sheet;
+pub mod receive;

@@ -1,15 +1,19 @@
 // Opening (Document 02, Three).
+// Not one with held's, and no struct: two tables of next numbers are lent too, to read or to write as the call wants (host/pointer_desk.h).
 ghost use Rattle.std.specs.Prelude.{◌≡◌};
-ghost use Rattle.model.specs.Calls.{open_desk};
 ghost use Rattle.in_order.specs.Ordered.{lent_in_order, ordered};
+ghost use Rattle.model.specs.Calls.{open_desk as open_of};
+ghost use Rattle.rules.specs.Turned.{told};
 
-use crate::shape::shape_good;
-use model::{Answer, Posted};
-use rules::answer::{accepted, refused};
-use scan::bytes::all_below;
-use tables::clear::{clear_counters, clear_slots};
-use tables::rows::write_rows;
+use lent::cells::Cell;
+use lent::desk::Lent;
+use lent::numbered_slots::NumberedSlots;
+use model::Posted;
+use rules::answer::Accepted;
+use rules::refusal::Refusal;
+use tables::clear::clear;
 
+#[tactic(auto, using(rules::proofs::TurnedLaws::err_unless), unfolding(model::specs::Calls::open_desk))]
 // Every counter 0, every receive cell 1 at the owner and 0 elsewhere, every slot empty, every next number 0.
 pub fn open_desk(
     s: u8,
@@ -19,28 +23,16 @@ pub fn open_desk(
     pool: &mut [u8],
     posts: &mut [u16],
     takes: &mut [u16],
-) -> Answer
-    ensures { record { answer = result; desk = lent_in_order s owners.now send.new receive.new pool.new posts.new takes.new }
-        ≡ open_desk ordered (lent_in_order s owners.now send.old receive.old pool.old posts.old takes.old) }
+) -> Result<Accepted, Refusal>
+    ensures { record { answer = told result; desk = lent_in_order s owners.now send.new receive.new pool.new posts.new takes.new }
+        ≡ open_of ordered (lent_in_order s owners.now send.old receive.old pool.old posts.old takes.old) }
 {
-    if !shape_good(
-        s,
-        owners.len(),
-        send.len(),
-        receive.len(),
-        pool.len(),
-        posts.len(),
-        takes.len(),
-    ) {
-        return refused(1);
-    }
-    if !all_below(owners, s) {
-        return refused(2);
-    }
-    clear_counters(send);
-    write_rows(s, owners, receive);
-    clear_slots(pool);
-    clear_counters(posts);
-    clear_counters(takes);
-    accepted(0, Posted::Nothing)
+    let slots = NumberedSlots::new(&pool[..], &posts[..], &takes[..]);
+    Lent::new(s, owners, &send[..], &receive[..], slots).opening()?;
+    clear(send);
+    u8::open(s, owners, receive);
+    clear(pool);
+    clear(posts);
+    clear(takes);
+    Ok(Accepted::new(0, Posted::Nothing))
 }

@@ -1,7 +1,6 @@
 -- Laws for the proofs of the functions.
-pub mod BoundaryLaws
 pub mod SheetLaws
-pub mod EntryLaws
+pub mod PartLaws
 -- Theorems for a reader.
 pub mod Handed
 pub mod LineForms

@@ -5,9 +5,9 @@ use mathlib.Core.List.{List, [], ◌∷◌}
 use lib.ListN.{length}
 use borrow.Author.Tests.{lt-ltb}
 use Rattle.model.specs.declared.Call.{Call}
-use Rattle.model.specs.declared.Read.{Read}
-use Rattle.model.specs.declared.Read.TheVariants.{Said, Refused}
-use Rattle.model.specs.declared.Next.{Next}
+use Rattle.model.specs.Lines.{Read}
+use Rattle.model.specs.Lines.{Said, Refused}
+use Rattle.model.specs.Lines.{Next}
 use Rattle.model.specs.Answers.{refused}
 use Rattle.model.specs.Lines.{digits_of, read_bytes, read_line, line_at, past_at, next_at}
 use Rattle.model.specs.Places.{moved_to}

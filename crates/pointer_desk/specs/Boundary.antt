@@ -1,11 +1,11 @@
 -- Document 01, "The calls", "Share and sheet", "The address book", "Lines"; document 02, Three: answers in C's form.
 use Rattle.std.specs.Prelude.{ℕ, ◌+◌, ◌/◌, ◌%◌, cond, List, [], ◌∷◌, eqb, length, get_or}
-use Rattle.model.specs.declared.Answer.{Answer}
-use Rattle.model.specs.declared.Share.{Share}
-use Rattle.model.specs.declared.Read.{Read}
-use Rattle.model.specs.declared.Read.TheVariants.{Said, Refused}
-use Rattle.model.specs.declared.Next.{Next}
-use Rattle.model.specs.declared.Next.TheVariants.{Line, Ended}
+use Rattle.model.specs.Answers.{Answer}
+use Rattle.model.specs.Survey.{Share}
+use Rattle.model.specs.Lines.{Read}
+use Rattle.model.specs.Lines.{Said, Refused}
+use Rattle.model.specs.Lines.{Next}
+use Rattle.model.specs.Lines.{Line, Ended}
 use Rattle.model.specs.Questions.{up_to}
 use Rattle.model.specs.Refusals.{BadShape}
 use Rattle.model.specs.Messages.{slot_of}

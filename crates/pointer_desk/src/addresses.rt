@@ -1,10 +1,12 @@
 // The address book (Document 01, The address book).
-ghost use Rattle.std.specs.Prelude.{◌≡◌};
-ghost use Rattle.book.specs.Book.{check_answer, search_answer};
+ghost use Rattle.std.specs.Prelude.{◌≡◌, IfOk};
+ghost use Rattle.rules.specs.Turned.{number_in};
+ghost use Rattle.book.specs.Book.{address_number, check_answer, search_answer};
 ghost use Rattle.pointer_desk.specs.Boundary.{flat_answer, part_given};
 
-use crate::answer::{DeskAnswer, flat_answer};
-use book::{address, address_number, check, entry_place, search};
+use crate::answer::DeskAnswer;
+use book::{address, check, entry_place, search};
+use rules::refusal::Refusal;
 
 // A number, and a part of the lent book: where it starts, and its length.
 #[repr(C)]
@@ -15,25 +17,32 @@ pub struct DeskPart {
     pub length: usize,
 }
 
+#[tactic(auto, using(crate::proofs::PartLaws::part_handed))]
+// The part that is handed out: behind the entry's length byte, as long as it is.
+fn part(sites: u8, owners: &[u8], book: &[u8], pointer: u8) -> Result<DeskPart, Refusal>
+    ensures number { number_in result ≡ address_number sites owners.now book.now pointer }
+    ensures part { IfOk result (λ part. part ≡ part_given sites owners.now book.now pointer) }
+{
+    let length = address(sites, owners, book, pointer)?.len();
+    let entry = entry_place(sites, owners, book, pointer)?;
+    Ok(DeskPart {
+        number: 0,
+        at: entry + 1,
+        length,
+    })
+}
+
+#[tactic(auto, using(crate::proofs::PartLaws::no_part))]
 // The question for an address: the part that is handed out; it is empty after a refusal, as no address is.
 #[unsafe(no_mangle)]
 pub extern "C" fn desk_book_address(sites: u8, owners: &[u8], book: &[u8], pointer: u8) -> DeskPart
     ensures { result ≡ part_given sites owners.now book.now pointer }
 {
-    let length = address(sites, owners, book, pointer).len();
-    if length == 0 {
-        return DeskPart {
-            number: address_number(sites, owners, book, pointer),
-            at: 0,
-            length: 0,
-        };
-    }
-    let entry = entry_place(sites, owners, book, pointer);
-    DeskPart {
-        number: 0,
-        at: entry + 1,
-        length,
-    }
+    part(sites, owners, book, pointer).unwrap_or_else(|refusal| DeskPart {
+        number: u8::from(refusal),
+        at: 0,
+        length: 0,
+    })
 }
 
 // A check of the book.
@@ -41,8 +50,7 @@ pub extern "C" fn desk_book_address(sites: u8, owners: &[u8], book: &[u8], point
 pub extern "C" fn desk_book_check(sites: u8, owners: &[u8], book: &[u8]) -> DeskAnswer
     ensures { result ≡ flat_answer (check_answer sites owners.now book.now) }
 {
-    let a = check(sites, owners, book);
-    flat_answer(a)
+    check(sites, owners, book).into()
 }
 
 // A search by owner and whole address.
@@ -56,6 +64,5 @@ pub extern "C" fn desk_book_search(
 ) -> DeskAnswer
     ensures { result ≡ flat_answer (search_answer sites owners.now book.now owner address.now) }
 {
-    let a = search(sites, owners, book, owner, address);
-    flat_answer(a)
+    search(sites, owners, book, owner, address).into()
 }

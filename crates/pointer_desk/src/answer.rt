@@ -1,9 +1,11 @@
 // An answer for C: the message as slot bytes (Document 01, What the host lends, The calls).
 ghost use Rattle.std.specs.Prelude.{◌≡◌};
+ghost use Rattle.rules.specs.Turned.{told};
 ghost use Rattle.pointer_desk.specs.Boundary.{flat_answer, ordered_answer};
 
-use model::Answer;
+use rules::answer::Accepted;
 use rules::message::slot_bytes;
+use rules::refusal::Refusal;
 
 // Number, value, how many slots were empty before a post (0: not told), and the message as slot bytes.
 #[repr(C)]
@@ -15,17 +17,25 @@ pub struct DeskAnswer {
     pub message: [u8; 5],
 }
 
-// An answer in C's form.
-pub fn flat_answer(a: Answer) -> DeskAnswer
-    ensures { result ≡ flat_answer a }
-{
-    let posted = a.posted;
-    let message = slot_bytes(posted);
-    DeskAnswer {
-        number: a.number,
-        value: a.value,
-        empty: a.empty,
-        message,
+// C has no Result (host/pointer_desk.h, DeskAnswer): a refusal is its number alone, and what is accepted has number 0 (Document 01, The calls).
+impl From<Result<Accepted, Refusal>> for DeskAnswer {
+    ghost from_gives = { λ answer flat. flat ≡ flat_answer (told answer) };
+
+    fn from(answer: Result<Accepted, Refusal>) -> DeskAnswer {
+        match answer {
+            Ok(accepted) => DeskAnswer {
+                number: 0,
+                value: accepted.value,
+                empty: accepted.empty,
+                message: slot_bytes(accepted.posted),
+            },
+            Err(refusal) => DeskAnswer {
+                number: u8::from(refusal),
+                value: 0,
+                empty: 0,
+                message: [0; 5],
+            },
+        }
     }
 }
 
@@ -39,16 +49,22 @@ pub struct DeskOrderedAnswer {
     pub message: [u8; 5],
 }
 
-// Its answer in C's form.
-pub fn ordered_answer(a: Answer) -> DeskOrderedAnswer
-    ensures { result ≡ ordered_answer a }
-{
-    let posted = a.posted;
-    let message = slot_bytes(posted);
-    DeskOrderedAnswer {
-        number: a.number,
-        value: a.value,
-        empty: a.empty,
-        message,
+// The same fields; C has a type for each desk (host/pointer_desk.h, DeskOrderedAnswer).
+impl From<Result<Accepted, Refusal>> for DeskOrderedAnswer {
+    ghost from_gives = { λ answer flat. flat ≡ ordered_answer (told answer) };
+
+    fn from(answer: Result<Accepted, Refusal>) -> DeskOrderedAnswer {
+        let DeskAnswer {
+            number,
+            value,
+            empty,
+            message,
+        } = DeskAnswer::from(answer);
+        DeskOrderedAnswer {
+            number,
+            value,
+            empty,
+            message,
+        }
     }
 }

@@ -1,12 +1,17 @@
 // Share and sheet (Document 01, Share and sheet).
-ghost use Rattle.std.specs.Prelude.{◌≡◌, ◌+◌, ◌*◌, ◌<◌, length, take};
+ghost use Rattle.std.specs.Prelude.{◌≡◌, length};
 ghost use Rattle.model.specs.Tables.{lent};
 ghost use Rattle.model.specs.Survey.{share as share_of};
 ghost use Rattle.model.specs.Flat.{flat};
+ghost use Rattle.model.specs.Parts.{desk_of};
+ghost use Rattle.lent.specs.Desks.{share_told};
 ghost use Rattle.pointer_desk.specs.Boundary.{flat_share, row_by_row, sheet_given};
 
-use byte_desk::share::share;
-use byte_desk::sheet::{sheet_by, sheet_number};
+use lent::cells::Cell;
+use lent::desk::Lent;
+use lent::held_slots::HeldSlots;
+use lent::pool::Slots;
+use rules::refusal::Refusal;
 
 // A number, and a signed whole number.
 #[repr(C)]
@@ -14,6 +19,21 @@ use byte_desk::sheet::{sheet_by, sheet_number};
 pub struct DeskShare {
     pub number: u8,
     pub share: i32,
+}
+
+// After a refusal the share is 0.
+impl From<Result<i32, Refusal>> for DeskShare {
+    ghost from_gives = { λ share flat. flat ≡ flat_share (share_told share) };
+
+    fn from(share: Result<i32, Refusal>) -> DeskShare {
+        match share {
+            Ok(share) => DeskShare { number: 0, share },
+            Err(refusal) => DeskShare {
+                number: u8::from(refusal),
+                share: 0,
+            },
+        }
+    }
 }
 
 // A share.
@@ -29,36 +49,45 @@ pub extern "C" fn desk_share(
 ) -> DeskShare
     ensures { result ≡ flat_share (share_of flat (lent sites owners.now send.now receive.now pool.now) site pointer) }
 {
-    let a = share(sites, owners, send, receive, pool, site, pointer);
-    DeskShare {
-        number: a.number,
-        share: a.share,
-    }
+    let desk = Lent::new(sites, owners, send, receive, HeldSlots::new(pool));
+    desk.share(site, pointer).into()
 }
 
-// A row of a sheet, after the rows before it.
-fn write_row(rows: &[[u32; 64]; 3], row: usize, sheet: &mut [u32])
-    requires row_bound { (row < 3) × (length sheet.old ≡ 192) }
-    requires sheet_value { take (row * 64) sheet.old ≡ take (row * 64) (row_by_row rows.now) }
-    ensures sheet_len { length sheet.new ≡ 192 }
-    ensures sheet_after { take (row * 64 + 64) sheet.new ≡ take (row * 64 + 64) (row_by_row rows.now) }
-{
-    let at = row * 64;
-    let mut c = 0;
-    while c < 64 {
-        sheet[at + c] = rows[row][c];
-        c += 1;
-    }
-}
-
+#[tactic(auto, using(std::proofs::lemmas::Slice::overwrites, crate::proofs::SheetLaws::row_after_row))]
 // A sheet as 192 counts, row by row.
-pub(crate) fn write_sheet(rows: &[[u32; 64]; 3], sheet: &mut [u32])
+fn write_rows(rows: &[[u32; 64]; 3], sheet: &mut [u32])
     requires { length sheet.old ≡ 192 }
     ensures { sheet.new ≡ row_by_row rows.now }
 {
-    write_row(rows, 0, sheet);
-    write_row(rows, 1, sheet);
-    write_row(rows, 2, sheet)
+    // By place: what is written through chunks_exact_mut no contract of std tells.
+    for (row, counts) in rows.iter().enumerate() {
+        let start = row * 64;
+        sheet[start..start + 64].copy_from_slice(counts);
+    }
+}
+
+#[tactic(auto, using(crate::proofs::SheetLaws::blank_counts), unfolding(crate::specs::Boundary::sheet_given))]
+// A sheet of 192 counts, all 0 after a refusal; another length gives 1, and nothing is written.
+pub(crate) fn write_sheet<C: Cell, P: Slots>(
+    desk: &Lent<'_, C, P>,
+    pointer: u8,
+    sheet: &mut [u32],
+) -> u8
+    ensures { record { number = result; counts = sheet.new } ≡ sheet_given (desk_of C.table P.pool) desk.now pointer sheet.old }
+{
+    if sheet.len() != 192 {
+        return u8::from(Refusal::BadShape);
+    }
+    match desk.sheet(pointer) {
+        Ok(rows) => {
+            write_rows(&rows, sheet);
+            0
+        }
+        Err(refusal) => {
+            sheet.fill(0);
+            u8::from(refusal)
+        }
+    }
 }
 
 // A sheet of 192 counts; another length gives 1, and nothing is written.
@@ -75,11 +104,6 @@ pub extern "C" fn desk_sheet(
     ensures { record { number = result; counts = sheet.new }
         ≡ sheet_given flat (lent sites owners.now send.now receive.now pool.now) pointer sheet.old }
 {
-    if sheet.len() != 192 {
-        return 1;
-    }
-    let number = sheet_number(sites, owners, send, receive, pool, pointer);
-    let rows = sheet_by(number, sites, owners, send, receive, pool, pointer);
-    write_sheet(&rows, sheet);
-    number
+    let desk = Lent::new(sites, owners, send, receive, HeldSlots::new(pool));
+    write_sheet(&desk, pointer, sheet)
 }

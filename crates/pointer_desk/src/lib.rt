@@ -1,4 +1,4 @@
-// The desk for C: every export is its call, and its answer in C's form (Document 01).
+// The desk for C: every export is its call, and its answer in C's form (Document 01). C calls each desk's by a name of its own (host/pointer_desk.h); what they share is one function each.
 #![tactic(auto)]
 
 mod addresses;

@@ -1,13 +1,16 @@
 // The line form of a call: the writer, and the reader at a place of a text (Document 01, Lines).
 ghost use Rattle.std.specs.Prelude.{◌≡◌};
+ghost use Rattle.rules.specs.Turned.{told};
+ghost use Rattle.lines.specs.Said.{read_of};
 ghost use Rattle.pointer_desk.specs.Boundary.{given, line_written, flat_read, line_given};
 
-use crate::answer::{DeskAnswer, flat_answer};
+use crate::answer::DeskAnswer;
 use lines::line::read_bytes;
-use lines::reader::{next_from, past_from};
+use lines::reader::Reader;
 use lines::write::{bytes_of, write_call};
-use model::{Next, Read};
-use rules::answer::refused;
+use model::Call;
+use rules::answer::Accepted;
+use rules::refusal::Refusal;
 
 // What a reader answers: a number, whether it has ended, the call's four bytes, and where it stands then.
 #[repr(C)]
@@ -19,32 +22,36 @@ pub struct DeskLine {
     pub at: usize,
 }
 
+// What the four bytes say, written as a line at the start of a text.
+fn write_bytes(code: u8, a: u8, b: u8, c: u8, text: &mut [u8]) -> Result<Accepted, Refusal>
+    ensures { record { answer = told result; desk = text.new } ≡ line_written text.old code a b c }
+{
+    write_call(text, read_bytes(code, a, b, c)?)
+}
+
 // The call of four bytes, as a line at the start of a text.
 #[unsafe(no_mangle)]
 pub extern "C" fn desk_line_write(code: u8, a: u8, b: u8, c: u8, text: &mut [u8]) -> DeskAnswer
     ensures { record { answer = result; desk = text.new } ≡ given (line_written text.old code a b c) }
 {
-    match read_bytes(code, a, b, c) {
-        Read::Said(call) => flat_answer(write_call(&mut text[..], call)),
-        Read::Refused(n) => flat_answer(refused(n)),
-    }
+    write_bytes(code, a, b, c, text).into()
 }
 
 // What a line says, in C's form, and a place.
-fn flat_read(read: Read, at: usize) -> DeskLine
-    ensures { result ≡ flat_read read at }
+fn flat_read(read: Result<Call, Refusal>, at: usize) -> DeskLine
+    ensures { result ≡ flat_read (read_of read) at }
 {
     match read {
-        Read::Said(call) => DeskLine {
+        Ok(call) => DeskLine {
             number: 0,
             ended: 0,
             call: bytes_of(call),
             at,
         },
-        Read::Refused(n) => DeskLine {
-            number: n,
+        Err(refusal) => DeskLine {
+            number: u8::from(refusal),
             ended: 0,
-            call: [0, 0, 0, 0],
+            call: [0; 4],
             at,
         },
     }
@@ -55,14 +62,14 @@ fn flat_read(read: Read, at: usize) -> DeskLine
 pub extern "C" fn desk_line_read(text: &[u8], at: usize) -> DeskLine
     ensures { result ≡ line_given text.now at }
 {
-    let past = past_from(text, at);
-    match next_from(text, at) {
-        Next::Line { read, .. } => flat_read(read, past),
-        Next::Ended => DeskLine {
+    let mut reader = Reader { text, at };
+    match reader.next() {
+        Some(read) => flat_read(read, reader.at),
+        None => DeskLine {
             number: 0,
             ended: 1,
-            call: [0, 0, 0, 0],
-            at: past,
+            call: [0; 4],
+            at,
         },
     }
 }

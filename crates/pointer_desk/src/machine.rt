@@ -5,12 +5,13 @@ ghost use Rattle.model.specs.Calls.{open_desk, make_copy, receive as receive_of,
 ghost use Rattle.model.specs.Flat.{flat};
 ghost use Rattle.pointer_desk.specs.Boundary.{given};
 
-use crate::answer::{DeskAnswer, flat_answer};
-use byte_desk::ask::ask;
-use byte_desk::copy::make_copy;
-use byte_desk::delete::delete;
-use byte_desk::opening::open_desk;
-use byte_desk::receive::receive as receive_slot;
+use crate::answer::DeskAnswer;
+use held::copy::make_copy;
+use held::delete::delete;
+use held::opening::open_desk;
+use held::receive::receive as receive_slot;
+use lent::desk::Lent;
+use lent::held_slots::HeldSlots;
 
 // An opening.
 #[unsafe(no_mangle)]
@@ -24,14 +25,7 @@ pub extern "C" fn desk_open(
     ensures { record { answer = result; desk = lent sites owners.now send.new receive.new pool.new }
         ≡ given (open_desk flat (lent sites owners.now send.old receive.old pool.old)) }
 {
-    let a = open_desk(
-        sites,
-        owners,
-        &mut send[..],
-        &mut receive[..],
-        &mut pool[..],
-    );
-    flat_answer(a)
+    open_desk(sites, owners, send, receive, pool).into()
 }
 
 // Make copy.
@@ -49,17 +43,7 @@ pub extern "C" fn desk_make_copy(
     ensures { record { answer = result; desk = lent sites owners.now send.new receive.now pool.new }
         ≡ given (make_copy flat (lent sites owners.now send.old receive.now pool.old) from to pointer) }
 {
-    let a = make_copy(
-        sites,
-        owners,
-        &mut send[..],
-        receive,
-        &mut pool[..],
-        from,
-        to,
-        pointer,
-    );
-    flat_answer(a)
+    make_copy(sites, owners, send, receive, pool, from, to, pointer).into()
 }
 
 // Receive.
@@ -75,15 +59,7 @@ pub extern "C" fn desk_receive(
     ensures { record { answer = result; desk = lent sites owners.now send.new receive.new pool.new }
         ≡ given (receive_of flat (lent sites owners.now send.old receive.old pool.old) slot) }
 {
-    let a = receive_slot(
-        sites,
-        owners,
-        &mut send[..],
-        &mut receive[..],
-        &mut pool[..],
-        slot,
-    );
-    flat_answer(a)
+    receive_slot(sites, owners, send, receive, pool, slot).into()
 }
 
 // Delete.
@@ -100,16 +76,7 @@ pub extern "C" fn desk_delete(
     ensures { record { answer = result; desk = lent sites owners.now send.now receive.new pool.new }
         ≡ given (delete_of flat (lent sites owners.now send.now receive.old pool.old) site pointer) }
 {
-    let a = delete(
-        sites,
-        owners,
-        send,
-        &mut receive[..],
-        &mut pool[..],
-        site,
-        pointer,
-    );
-    flat_answer(a)
+    delete(sites, owners, send, receive, pool, site, pointer).into()
 }
 
 // Ask.
@@ -126,6 +93,6 @@ pub extern "C" fn desk_ask(
     ensures { record { answer = result; desk = lent sites owners.now send.now receive.now pool.now }
         ≡ given (ask_of flat (lent sites owners.now send.now receive.now pool.now) site pointer) }
 {
-    let a = ask(sites, owners, send, receive, pool, site, pointer);
-    flat_answer(a)
+    let desk = Lent::new(sites, owners, send, receive, HeldSlots::new(pool));
+    desk.ask(site, pointer).into()
 }

@@ -4,12 +4,13 @@ ghost use Rattle.model.specs.Calls.{open_desk, make_copy, receive as receive_of,
 ghost use Rattle.in_order.specs.Ordered.{lent_in_order, ordered};
 ghost use Rattle.pointer_desk.specs.Boundary.{given_in_order};
 
-use crate::answer::{DeskOrderedAnswer, ordered_answer};
-use ordered::ask::ask;
+use crate::answer::DeskOrderedAnswer;
+use lent::desk::Lent;
+use lent::numbered_slots::NumberedSlots;
+use ordered::copy::make_copy;
+use ordered::delete::delete;
 use ordered::opening::open_desk;
-use posting::copy::make_copy;
-use posting::delete::delete;
-use posting::receive::receive as receive_slot;
+use ordered::receive::receive as receive_slot;
 
 // An opening.
 #[unsafe(no_mangle)]
@@ -25,16 +26,7 @@ pub extern "C" fn desk_ordered_open(
     ensures { record { answer = result; desk = lent_in_order sites owners.now send.new receive.new pool.new posts.new takes.new }
         ≡ given_in_order (open_desk ordered (lent_in_order sites owners.now send.old receive.old pool.old posts.old takes.old)) }
 {
-    let a = open_desk(
-        sites,
-        owners,
-        &mut send[..],
-        &mut receive[..],
-        &mut pool[..],
-        &mut posts[..],
-        &mut takes[..],
-    );
-    ordered_answer(a)
+    open_desk(sites, owners, send, receive, pool, posts, takes).into()
 }
 
 // Make copy.
@@ -54,19 +46,10 @@ pub extern "C" fn desk_ordered_make_copy(
     ensures { record { answer = result; desk = lent_in_order sites owners.now send.new receive.now pool.new posts.new takes.now }
         ≡ given_in_order (make_copy ordered (lent_in_order sites owners.now send.old receive.now pool.old posts.old takes.now) from to pointer) }
 {
-    let a = make_copy(
-        sites,
-        owners,
-        &mut send[..],
-        receive,
-        &mut pool[..],
-        &mut posts[..],
-        takes,
-        from,
-        to,
-        pointer,
-    );
-    ordered_answer(a)
+    make_copy(
+        sites, owners, send, receive, pool, posts, takes, from, to, pointer,
+    )
+    .into()
 }
 
 // Receive.
@@ -84,17 +67,7 @@ pub extern "C" fn desk_ordered_receive(
     ensures { record { answer = result; desk = lent_in_order sites owners.now send.new receive.new pool.new posts.new takes.new }
         ≡ given_in_order (receive_of ordered (lent_in_order sites owners.now send.old receive.old pool.old posts.old takes.old) slot) }
 {
-    let a = receive_slot(
-        sites,
-        owners,
-        &mut send[..],
-        &mut receive[..],
-        &mut pool[..],
-        &mut posts[..],
-        &mut takes[..],
-        slot,
-    );
-    ordered_answer(a)
+    receive_slot(sites, owners, send, receive, pool, posts, takes, slot).into()
 }
 
 // Delete.
@@ -113,18 +86,10 @@ pub extern "C" fn desk_ordered_delete(
     ensures { record { answer = result; desk = lent_in_order sites owners.now send.now receive.new pool.new posts.new takes.now }
         ≡ given_in_order (delete_of ordered (lent_in_order sites owners.now send.now receive.old pool.old posts.old takes.now) site pointer) }
 {
-    let a = delete(
-        sites,
-        owners,
-        send,
-        &mut receive[..],
-        &mut pool[..],
-        &mut posts[..],
-        takes,
-        site,
-        pointer,
-    );
-    ordered_answer(a)
+    delete(
+        sites, owners, send, receive, pool, posts, takes, site, pointer,
+    )
+    .into()
 }
 
 // Ask.
@@ -143,8 +108,12 @@ pub extern "C" fn desk_ordered_ask(
     ensures { record { answer = result; desk = lent_in_order sites owners.now send.now receive.now pool.now posts.now takes.now }
         ≡ given_in_order (ask_of ordered (lent_in_order sites owners.now send.now receive.now pool.now posts.now takes.now) site pointer) }
 {
-    let a = ask(
-        sites, owners, send, receive, pool, posts, takes, site, pointer,
+    let desk = Lent::new(
+        sites,
+        owners,
+        send,
+        receive,
+        NumberedSlots::new(pool, posts, takes),
     );
-    ordered_answer(a)
+    desk.ask(site, pointer).into()
 }

@@ -5,8 +5,8 @@ ghost use Rattle.in_order.specs.Ordered.{lent_in_order, ordered};
 ghost use Rattle.pointer_desk.specs.Boundary.{flat_share, sheet_given};
 
 use crate::counts::{DeskShare, write_sheet};
-use ordered::share::share;
-use ordered::sheet::{sheet_by, sheet_number};
+use lent::desk::Lent;
+use lent::numbered_slots::NumberedSlots;
 
 // A share.
 #[unsafe(no_mangle)]
@@ -23,13 +23,14 @@ pub extern "C" fn desk_ordered_share(
 ) -> DeskShare
     ensures { result ≡ flat_share (share_of ordered (lent_in_order sites owners.now send.now receive.now pool.now posts.now takes.now) site pointer) }
 {
-    let a = share(
-        sites, owners, send, receive, pool, posts, takes, site, pointer,
+    let desk = Lent::new(
+        sites,
+        owners,
+        send,
+        receive,
+        NumberedSlots::new(pool, posts, takes),
     );
-    DeskShare {
-        number: a.number,
-        share: a.share,
-    }
+    desk.share(site, pointer).into()
 }
 
 // A sheet of 192 counts; another length gives 1, and nothing is written.
@@ -48,13 +49,12 @@ pub extern "C" fn desk_ordered_sheet(
     ensures { record { number = result; counts = sheet.new }
         ≡ sheet_given ordered (lent_in_order sites owners.now send.now receive.now pool.now posts.now takes.now) pointer sheet.old }
 {
-    if sheet.len() != 192 {
-        return 1;
-    }
-    let number = sheet_number(sites, owners, send, receive, pool, posts, takes, pointer);
-    let rows = sheet_by(
-        number, sites, owners, send, receive, pool, posts, takes, pointer,
+    let desk = Lent::new(
+        sites,
+        owners,
+        send,
+        receive,
+        NumberedSlots::new(pool, posts, takes),
     );
-    write_sheet(&rows, sheet);
-    number
+    write_sheet(&desk, pointer, sheet)
 }

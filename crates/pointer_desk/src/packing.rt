@@ -3,6 +3,7 @@ ghost use Rattle.std.specs.Prelude.{◌≡◌};
 ghost use Rattle.word_cells.specs.WordCells.{pack as pack_of, unpack as unpack_of};
 ghost use Rattle.pointer_desk.specs.Boundary.{numbered};
 
+use crate::answer::DeskAnswer;
 use bits::pack::pack;
 use bits::unpack::unpack;
 
@@ -11,8 +12,7 @@ use bits::unpack::unpack;
 pub extern "C" fn desk_words_pack(sites: u8, receive: &[u8], words: &mut [u64]) -> u8
     ensures { record { number = result; counts = words.new } ≡ numbered (pack_of sites receive.now words.old) }
 {
-    let a = pack(sites, receive, &mut words[..]);
-    a.number
+    DeskAnswer::from(pack(sites, receive, words)).number
 }
 
 // Words as byte cells.
@@ -20,6 +20,5 @@ pub extern "C" fn desk_words_pack(sites: u8, receive: &[u8], words: &mut [u64]) 
 pub extern "C" fn desk_words_unpack(sites: u8, words: &[u64], receive: &mut [u8]) -> u8
     ensures { record { number = result; counts = receive.new } ≡ numbered (unpack_of sites words.now receive.old) }
 {
-    let a = unpack(sites, words, &mut receive[..]);
-    a.number
+    DeskAnswer::from(unpack(sites, words, receive)).number
 }

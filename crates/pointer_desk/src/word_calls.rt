@@ -4,13 +4,13 @@ ghost use Rattle.model.specs.Calls.{open_desk, make_copy, receive as receive_of,
 ghost use Rattle.word_cells.specs.WordCells.{lent_in_words, words as words_of, count_holders};
 ghost use Rattle.pointer_desk.specs.Boundary.{given};
 
-use crate::answer::{DeskAnswer, flat_answer};
-use word_posting::copy::make_copy;
-use word_posting::delete::delete;
-use word_posting::receive::receive as receive_slot;
-use words::ask::ask;
-use words::count::count_holders;
-use words::opening::open_desk;
+use crate::answer::DeskAnswer;
+use held::copy::make_copy;
+use held::delete::delete;
+use held::opening::open_desk;
+use held::receive::receive as receive_slot;
+use lent::desk::Lent;
+use lent::held_slots::HeldSlots;
 
 // An opening.
 #[unsafe(no_mangle)]
@@ -24,8 +24,7 @@ pub extern "C" fn desk_words_open(
     ensures { record { answer = result; desk = lent_in_words sites owners.now send.new words.new pool.new }
         ≡ given (open_desk words_of (lent_in_words sites owners.now send.old words.old pool.old)) }
 {
-    let a = open_desk(sites, owners, &mut send[..], &mut words[..], &mut pool[..]);
-    flat_answer(a)
+    open_desk(sites, owners, send, words, pool).into()
 }
 
 // Make copy.
@@ -43,17 +42,7 @@ pub extern "C" fn desk_words_make_copy(
     ensures { record { answer = result; desk = lent_in_words sites owners.now send.new words.now pool.new }
         ≡ given (make_copy words_of (lent_in_words sites owners.now send.old words.now pool.old) from to pointer) }
 {
-    let a = make_copy(
-        sites,
-        owners,
-        &mut send[..],
-        words,
-        &mut pool[..],
-        from,
-        to,
-        pointer,
-    );
-    flat_answer(a)
+    make_copy(sites, owners, send, words, pool, from, to, pointer).into()
 }
 
 // Receive.
@@ -69,15 +58,7 @@ pub extern "C" fn desk_words_receive(
     ensures { record { answer = result; desk = lent_in_words sites owners.now send.new words.new pool.new }
         ≡ given (receive_of words_of (lent_in_words sites owners.now send.old words.old pool.old) slot) }
 {
-    let a = receive_slot(
-        sites,
-        owners,
-        &mut send[..],
-        &mut words[..],
-        &mut pool[..],
-        slot,
-    );
-    flat_answer(a)
+    receive_slot(sites, owners, send, words, pool, slot).into()
 }
 
 // Delete.
@@ -94,16 +75,7 @@ pub extern "C" fn desk_words_delete(
     ensures { record { answer = result; desk = lent_in_words sites owners.now send.now words.new pool.new }
         ≡ given (delete_of words_of (lent_in_words sites owners.now send.now words.old pool.old) site pointer) }
 {
-    let a = delete(
-        sites,
-        owners,
-        send,
-        &mut words[..],
-        &mut pool[..],
-        site,
-        pointer,
-    );
-    flat_answer(a)
+    delete(sites, owners, send, words, pool, site, pointer).into()
 }
 
 // Ask.
@@ -120,8 +92,8 @@ pub extern "C" fn desk_words_ask(
     ensures { record { answer = result; desk = lent_in_words sites owners.now send.now words.now pool.now }
         ≡ given (ask_of words_of (lent_in_words sites owners.now send.now words.now pool.now) site pointer) }
 {
-    let a = ask(sites, owners, send, words, pool, site, pointer);
-    flat_answer(a)
+    let desk = Lent::new(sites, owners, send, words, HeldSlots::new(pool));
+    desk.ask(site, pointer).into()
 }
 
 // The count of holders.
@@ -137,6 +109,6 @@ pub extern "C" fn desk_words_count(
     ensures { record { answer = result; desk = lent_in_words sites owners.now send.now words.now pool.now }
         ≡ given (count_holders (lent_in_words sites owners.now send.now words.now pool.now) pointer) }
 {
-    let a = count_holders(sites, owners, send, words, pool, pointer);
-    flat_answer(a)
+    let desk = Lent::new(sites, owners, send, words, HeldSlots::new(pool));
+    desk.count_holders(pointer).into()
 }

@@ -5,8 +5,8 @@ ghost use Rattle.word_cells.specs.WordCells.{lent_in_words, words as words_of};
 ghost use Rattle.pointer_desk.specs.Boundary.{flat_share, sheet_given};
 
 use crate::counts::{DeskShare, write_sheet};
-use words::share::share;
-use words::sheet::{sheet_by, sheet_number};
+use lent::desk::Lent;
+use lent::held_slots::HeldSlots;
 
 // A share.
 #[unsafe(no_mangle)]
@@ -21,11 +21,8 @@ pub extern "C" fn desk_words_share(
 ) -> DeskShare
     ensures { result ≡ flat_share (share_of words_of (lent_in_words sites owners.now send.now words.now pool.now) site pointer) }
 {
-    let a = share(sites, owners, send, words, pool, site, pointer);
-    DeskShare {
-        number: a.number,
-        share: a.share,
-    }
+    let desk = Lent::new(sites, owners, send, words, HeldSlots::new(pool));
+    desk.share(site, pointer).into()
 }
 
 // A sheet of 192 counts; another length gives 1, and nothing is written.
@@ -42,11 +39,6 @@ pub extern "C" fn desk_words_sheet(
     ensures { record { number = result; counts = sheet.new }
         ≡ sheet_given words_of (lent_in_words sites owners.now send.now words.now pool.now) pointer sheet.old }
 {
-    if sheet.len() != 192 {
-        return 1;
-    }
-    let number = sheet_number(sites, owners, send, words, pool, pointer);
-    let rows = sheet_by(number, sites, owners, send, words, pool, pointer);
-    write_sheet(&rows, sheet);
-    number
+    let desk = Lent::new(sites, owners, send, words, HeldSlots::new(pool));
+    write_sheet(&desk, pointer, sheet)
 }

@@ -1,41 +1,36 @@
-// Every answer is made here (Document 01, The calls).
+// What an accepted call answers (Document 01, The calls).
 ghost use Rattle.std.specs.Prelude.{◌≡◌};
-ghost use Rattle.model.specs.Answers.{accepted as accepted_of, accepted_telling, refused as refused_of};
 
-use model::{Answer, Posted};
+use model::Posted;
 
-// An accepted call has number 0; most tell no count of empty slots.
-pub fn accepted(value: u16, posted: Posted) -> Answer
-    ensures { result ≡ accepted_of value posted }
-{
-    Answer {
-        number: 0,
-        value,
-        empty: 0,
-        posted,
-    }
+// A value, the posted message, and how many slots were empty before a post, 0: not told (Document 02, One).
+#[derive(Clone, Copy)]
+pub struct Accepted {
+    pub value: u16,
+    pub empty: u16,
+    pub posted: Posted,
 }
 
-// Make copy and delete hand it on (Document 02, One).
-pub fn accepted_telling(empty: u16, value: u16, posted: Posted) -> Answer
-    ensures { result ≡ accepted_telling empty value posted }
-{
-    Answer {
-        number: 0,
-        value,
-        empty,
-        posted,
-    }
-}
+ghost use Rattle.std.specs.Prelude.{Ok};
+ghost use Rattle.model.specs.Answers.{accepted, accepted_telling};
+ghost use Rattle.rules.specs.Turned.{told};
 
-// A refusal has its number, value 0, no count and no message.
-pub fn refused(number: u8) -> Answer
-    ensures { result ≡ refused_of number }
-{
-    Answer {
-        number,
-        value: 0,
-        empty: 0,
-        posted: Posted::Nothing,
+impl Accepted {
+    // Most calls tell no count of empty slots.
+    pub fn new(value: u16, posted: Posted) -> Self
+        ensures { told (Ok result) ≡ accepted value posted }
+    {
+        Accepted::telling(0, value, posted)
+    }
+
+    // Make copy and delete hand it on (Document 02, One).
+    pub fn telling(empty: u16, value: u16, posted: Posted) -> Self
+        ensures { told (Ok result) ≡ accepted_telling empty value posted }
+    {
+        Accepted {
+            value,
+            empty,
+            posted,
+        }
     }
 }

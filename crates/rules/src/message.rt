@@ -4,7 +4,7 @@ ghost use Rattle.model.specs.Messages.{slot_of, is_nothing, sender as sender_of,
 
 use model::Posted;
 
-// A message as slot bytes: kind, from, to, third, pointer.
+// A message as slot bytes: kind, from, to, third, pointer. No From: Posted is of model, which has no functions.
 pub fn slot_bytes(m: Posted) -> [u8; 5]
     ensures { result ≡ slot_of m }
 {
@@ -25,12 +25,7 @@ pub fn slot_bytes(m: Posted) -> [u8; 5]
 pub fn is_nothing(m: Posted) -> bool
     ensures { result ≡ is_nothing m }
 {
-    match m {
-        Posted::Copy { .. } => false,
-        Posted::Dec { .. } => false,
-        Posted::IncDec { .. } => false,
-        Posted::Nothing => true,
-    }
+    matches!(m, Posted::Nothing)
 }
 
 // The site that it came from.
@@ -38,9 +33,7 @@ pub fn sender(m: Posted) -> u8
     ensures { result ≡ sender_of m }
 {
     match m {
-        Posted::Copy { from, .. } => from,
-        Posted::Dec { from, .. } => from,
-        Posted::IncDec { from, .. } => from,
+        Posted::Copy { from, .. } | Posted::Dec { from, .. } | Posted::IncDec { from, .. } => from,
         Posted::Nothing => 0,
     }
 }
@@ -50,9 +43,7 @@ pub fn receiver(m: Posted) -> u8
     ensures { result ≡ receiver_of m }
 {
     match m {
-        Posted::Copy { to, .. } => to,
-        Posted::Dec { to, .. } => to,
-        Posted::IncDec { to, .. } => to,
+        Posted::Copy { to, .. } | Posted::Dec { to, .. } | Posted::IncDec { to, .. } => to,
         Posted::Nothing => 0,
     }
 }
@@ -62,9 +53,9 @@ pub fn pointer_of(m: Posted) -> u8
     ensures { result ≡ pointer_of m }
 {
     match m {
-        Posted::Copy { pointer, .. } => pointer,
-        Posted::Dec { pointer, .. } => pointer,
-        Posted::IncDec { pointer, .. } => pointer,
+        Posted::Copy { pointer, .. }
+        | Posted::Dec { pointer, .. }
+        | Posted::IncDec { pointer, .. } => pointer,
         Posted::Nothing => 0,
     }
 }
@@ -74,14 +65,12 @@ pub fn is_inc_dec(a: u8, b: u8, p: u8, m: Posted) -> bool
     ensures { result ≡ is_inc_dec a b p m }
 {
     match m {
-        Posted::Copy { .. } => false,
-        Posted::Dec { .. } => false,
         Posted::IncDec {
             from,
             to,
             third: _,
             pointer,
         } => (from == a) & (to == b) & (pointer == p),
-        Posted::Nothing => false,
+        _ => false,
     }
 }

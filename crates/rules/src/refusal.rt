@@ -1,56 +1,99 @@
 // Refusals over scalars, in document 01's order (Why a call is turned down).
-ghost use Rattle.std.specs.Prelude.{◌≡◌};
-ghost use Rattle.model.specs.Refusals.{◌when◌, ◌or_else◌};
+ghost use Rattle.std.specs.Prelude.{◌≡◌, ℕ, ◌<◌, OnSome, IfOk, IfSome};
+ghost use Rattle.model.specs.Refusals.{◌when◌};
 ghost use Rattle.model.specs.Calls.{copy_refusal, delete_refusal};
+ghost use Rattle.rules.specs.Turned.{number_of, number_in, slot_in};
 
-// A number that is given when a test holds; 0 where it does not.
-pub fn when(n: u8, test: bool) -> u8
-    ensures { result ≡ n when test }
+// Why a call is turned down, by name; its discriminant is its number (Document 01, Why a call is turned down).
+#[derive(Clone, Copy, Debug, PartialEq, Eq)]
+pub enum Refusal {
+    BadShape = 1,
+    BadTable = 2,
+    BadName = 3,
+    SameSite = 4,
+    NotHeld = 5,
+    CounterFull = 6,
+    PoolFull = 7,
+    EmptySlot = 8,
+    Held = 9,
+    CounterZero = 10,
+    IsOwner = 11,
+    StillCounted = 12,
+    NotOwner = 13,
+    BadLine = 14,
+    UnknownCode = 15,
+    PrivateCode = 16,
+    TooLong = 17,
+    BadBook = 18,
+    Twins = 19,
+    NotListed = 20,
+    OutOfOrder = 21,
+}
+
+// The number that C and an answer line have.
+impl From<Refusal> for u8 {
+    ghost from_gives = { λ refusal number. number ≡ number_of refusal };
+
+    fn from(refusal: Refusal) -> u8 {
+        refusal as u8
+    }
+}
+
+// Turned down for this reason when a test holds.
+pub fn when(refusal: Refusal, test: bool) -> Result<(), Refusal>
+    ensures { number_in result ≡ number_of refusal when test }
 {
     if test {
-        return n;
+        return Err(refusal);
     }
-    0
+    Ok(())
 }
 
-// The first of two numbers that is given.
-pub fn first_of(m: u8, n: u8) -> u8
-    ensures { result ≡ m or_else n }
-{
-    if m != 0 {
-        return m;
-    }
-    n
-}
-
-// Make copy: 4, 5, 6, 7.
+#[tactic(auto, unfolding(model::specs::Calls::copy_refusal))]
+// Make copy: 4, 5, 6, 7; of the lowest empty slot, which an accepted call takes.
 pub fn copy_refusal(
     from: u8,
     to: u8,
     owner: u8,
     cell: u8,
     counter: u16,
-    slot: usize,
-    slots: usize,
-) -> u8
-    ensures { result ≡ copy_refusal from to owner cell counter slot slots }
+    lowest: Option<usize>,
+) -> Result<usize, Refusal>
+    ensures number { (slots : ℕ) → IfSome lowest (λ i. i < slots) → number_in result ≡ copy_refusal from to owner cell counter (slot_in slots lowest) slots }
+    ensures slot { IfOk result (λ i. lowest ≡ Some i) }
 {
-    let same_site = when(4, from == to);
-    let not_held = when(5, (from != owner) & (cell == 0));
-    let counter_full = when(6, counter == 65535);
-    let pool_full = when(7, slots <= slot);
-    let rest = first_of(counter_full, pool_full);
-    first_of(same_site, first_of(not_held, rest))
+    if from == to {
+        return Err(Refusal::SameSite);
+    }
+    if (from != owner) & (cell == 0) {
+        return Err(Refusal::NotHeld);
+    }
+    if counter == 65535 {
+        return Err(Refusal::CounterFull);
+    }
+    lowest.ok_or(Refusal::PoolFull)
 }
 
-// Delete: 11, 5, 12, 7.
-pub fn delete_refusal(site: u8, owner: u8, cell: u8, counter: u16, slot: usize, slots: usize) -> u8
-    ensures { result ≡ delete_refusal site owner cell counter slot slots }
+#[tactic(auto, unfolding(model::specs::Calls::delete_refusal))]
+// Delete: 11, 5, 12, 7; of the lowest empty slot, which an accepted call takes.
+pub fn delete_refusal(
+    site: u8,
+    owner: u8,
+    cell: u8,
+    counter: u16,
+    lowest: Option<usize>,
+) -> Result<usize, Refusal>
+    ensures number { (slots : ℕ) → IfSome lowest (λ i. i < slots) → number_in result ≡ delete_refusal site owner cell counter (slot_in slots lowest) slots }
+    ensures slot { IfOk result (λ i. lowest ≡ Some i) }
 {
-    let is_owner = when(11, site == owner);
-    let not_held = when(5, cell == 0);
-    let still_counted = when(12, counter != 0);
-    let pool_full = when(7, slots <= slot);
-    let rest = first_of(still_counted, pool_full);
-    first_of(is_owner, first_of(not_held, rest))
+    if site == owner {
+        return Err(Refusal::IsOwner);
+    }
+    if cell == 0 {
+        return Err(Refusal::NotHeld);
+    }
+    if counter != 0 {
+        return Err(Refusal::StillCounted);
+    }
+    lowest.ok_or(Refusal::PoolFull)
 }

@@ -1,6 +1,4 @@
 -- What is true of a run, and what the proofs of the functions cite.
-pub mod NextLaws
-pub mod TurnLaws
 pub mod OpeningLaws
 pub mod BegunLaws
 pub mod Whole

@@ -8,24 +8,16 @@ use lib.Dec.{ltb}
 use lib.ListN.{length, drop, length-append}
 use lib.Seq.{sets-eq}
 use borrow.Author.Tests.{le-ltb, ltb-false}
-use Rattle.model.specs.Tables.{Desk}
 use Rattle.model.specs.Answers.{refused}
-use Rattle.model.specs.Lines.{lines_of, read_line}
-use Rattle.model.specs.Transcript.{answer_line, obeyed, answers, goes_on, opening, session, transcript}
+use Rattle.model.specs.Lines.{lines_of}
+use Rattle.model.specs.Transcript.{answer_line, answers, goes_on, opening, session, transcript}
 use Rattle.lines.proofs.StoreLaws.{length_answer_line}
 use Rattle.model.proofs.EachLineOnce.{each_line_once}
 use Rattle.model.proofs.OneOutcome.{one_outcome}
+use Rattle.runner.proofs.BegunLaws.{answers_length}
 use Rattle.runner.specs.Run.{Written, written, room, run}
 
 -- ---- the greatest length
--- one answer line for each line
-answers_length : (lines : List (List ℕ)) (d : Desk) → length (answers d lines) ≡ length lines * 17
-unfolding answers
-answers_length [] d = refl
-answers_length (line ∷ lines) d =
-    let o = obeyed d (read_line line) in
-    length-append (answer_line o.answer) (answers o.desk lines) ∙ omega (arith, length_answer_line o.answer, answers_length lines o.desk)
-
 goes_on_most : (n : ℕ) (text : List ℕ) → length (goes_on n text) ≤ length text
 goes_on_most zero text = omega arith
 goes_on_most (suc n) text = omega arith

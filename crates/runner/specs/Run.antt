@@ -1,5 +1,5 @@
 -- Document 01, "Lines": the transcript of an input, at the start of a lent output.
-use Rattle.std.specs.Prelude.{ℕ, ◌+◌, cond, List, [], ltb, length}
+use Rattle.std.specs.Prelude.{ℕ, cond, List, [], ltb, length}
 use Rattle.std.proofs.lemmas.List.Edits.{sets}
 use Rattle.model.specs.Transcript.{transcript}
 
@@ -11,10 +11,6 @@ pub record Written : Type 0 where
 -- a text at the start of a lent output; what stands past it stays as it was
 abbrev pub written : List ℕ → List ℕ → Written
 written output text = record { output = sets output 0 text; count = length text }
-
--- a text at a place of it, where what stands before is written already
-abbrev pub written_at : List ℕ → ℕ → List ℕ → Written
-written_at output at text = record { output = sets output at text; count = at + length text }
 
 -- enough for every input: 8,192 lines of 17 characters
 abbrev pub room : ℕ

@@ -1,7 +1,7 @@
--- `&` over `|`, and where an `|` is 0.
+-- `&` over `|`, where an `|` is 0, and tests in pairs.
 use Prim.Native.Nat.{ℕ, ◌+◌, ◌*◌, ◌/◌, ◌%◌, min, max}
 use mathlib.Core.Path.{◌≡◌, refl, sym, ap₂, ◌∙◌}
-use mathlib.Core.Bool.{◌&&◌}
+use mathlib.Core.Bool.{Bool, true, false, ◌&&◌}
 use native.Mathlib.Omega.{arith}
 use lib.Arith.{bin_ind}
 use lib.Bits.{bit_and, bit_or, and_step, or_step, or_add_and, and_le_l, and_le_r}
@@ -47,3 +47,10 @@ or_zero a b =
     (λ e.
     let both = and_both (eqb a 0) (eqb b 0) e in
     rw (eqb-true a 0 both.0, eqb-true b 0 both.1))
+
+-- ---- pairs of tests
+pub and_pairs : (a b c d : Bool) → ((a && b) && (c && d)) ≡ ((a && c) && (b && d))
+and_pairs true true c d = refl
+and_pairs true false true d = refl
+and_pairs true false false d = refl
+and_pairs false b c d = refl

@@ -13,14 +13,11 @@ use mir.Val.{Fits}
 use borrow.Author.Tests.{eqb-true, eq-eqb, ltb-true, ltb-false, lt-ltb}
 use Rattle.model.specs.Questions.{every}
 use Rattle.model.specs.Tables.{byte_below}
-use Rattle.model.proofs.TestLaws.{same_test, and_both, and_assoc}
+use Rattle.model.proofs.TestLaws.{same_test, and_both, and_assoc, and_true}
 use Rattle.model.proofs.QuestionLaws.{every_at, every_all}
 use Rattle.scan.specs.Word.{eight, eight_at, clear, bit_mask}
+use Rattle.scan.proofs.BitLaws.{and_pairs}
 use Rattle.scan.proofs.FieldLaws.{clear_or, seen_more, masked_block}
-
-and_true : (b : Bool) → (b && true) ≡ b
-and_true true = refl
-and_true false = refl
 
 -- ---- one number
 -- the lowest byte, and those above it
@@ -93,16 +90,10 @@ unfolding every
 words P zero = refl
 words P (suc n) = ap (λ (b : Bool). b && every 8 (λ j. P (n * 8 + j))) (words P n) ∙ covered P (n * 8) (n * 8) 8 (suc n * 8) (omega arith) (omega arith)
 
-four_ands : (a b c d : Bool) → ((a && b) && (c && d)) ≡ ((a && c) && (b && d))
-four_ands true true c d = refl
-four_ands true false true d = refl
-four_ands true false false d = refl
-four_ands false b c d = refl
-
 pub both : (P Q : ℕ → Bool) (n : ℕ) → every n (λ k. P k && Q k) ≡ (every n P && every n Q)
 unfolding every
 both P Q zero = refl
-both P Q (suc n) = ap (λ (b : Bool). b && (P n && Q n)) (both P Q n) ∙ four_ands (every n P) (every n Q) (P n) (Q n)
+both P Q (suc n) = ap (λ (b : Bool). b && (P n && Q n)) (both P Q n) ∙ and_pairs (every n P) (every n Q) (P n) (Q n)
 
 -- ---- four streams of q words
 module _ (P : ℕ → Bool) (q : ℕ) where

@@ -1,7 +1,7 @@
 -- A packed number shows none of the mask's bits where each field is below its top bit.
 use Prim.Native.Nat.{ℕ, ◌+◌, ◌*◌, ◌/◌, ◌%◌, ◌≤◌, ◌<◌}
-use mathlib.Core.Path.{◌≡◌, refl, sym, ap, ap₂, ◌∙◌}
-use mathlib.Core.Bool.{Bool, true, false, ◌&&◌}
+use mathlib.Core.Path.{◌≡◌, sym, ap, ap₂, ◌∙◌}
+use mathlib.Core.Bool.{Bool, true, ◌&&◌}
 use native.Mathlib.Omega.{arith}
 use lib.Bits.{bit_and, bit_or, and_block, and_high}
 use lib.Dec.{eqb, leb, ltb}
@@ -20,22 +20,6 @@ clear_or mask a b = ap (λ (n : ℕ). eqb n 0) (and_over_or a b mask) ∙ or_zer
 pub seen_more : (mask : ℕ) (P : ℕ → Bool) (i next seen x : ℕ) → i + 1 ≡ next → clear mask seen ≡ every i P → clear mask x ≡ P i → clear mask (bit_or seen x) ≡ every next P
 seen_more mask P i next seen x q before e =
     clear_or mask seen x ∙ ap (λ (b : Bool). clear mask seen && b) e ∙ every_more P i before ∙ ap (λ (n : ℕ). every n P) q
-
--- one more is seen, as two numbers that are kept apart
-and_pairs : (a b c d : Bool) → ((a && b) && (c && d)) ≡ ((a && c) && (b && d))
-and_pairs true true c d = refl
-and_pairs true false true d = refl
-and_pairs true false false d = refl
-and_pairs false b c d = refl
-
-pub apart_more : (mask : ℕ) (P : ℕ → Bool) (i numbers sums x y : ℕ) → clear mask (bit_or numbers sums) ≡ every i P → (clear mask x && clear mask y) ≡ P i
-    → clear mask (bit_or (bit_or numbers x) (bit_or sums y)) ≡ every (i + 1) P
-apart_more mask P i numbers sums x y before e =
-    clear_or mask (bit_or numbers x) (bit_or sums y)
-    ∙ ap₂ (λ (a b : Bool). a && b) (clear_or mask numbers x) (clear_or mask sums y)
-    ∙ and_pairs (clear mask numbers) (clear mask x) (clear mask sums) (clear mask y)
-    ∙ ap₂ (λ (a b : Bool). a && b) (sym (clear_or mask numbers sums)) e
-    ∙ every_more P i before
 
 -- ---- five fields below limits: of the kind 4, of from and to a, of third b, of the pointer c
 abbrev pub fields_below : ℕ → ℕ → ℕ → ℕ → ℕ → ℕ → ℕ → ℕ → Bool

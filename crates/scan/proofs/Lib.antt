@@ -2,6 +2,6 @@
 pub mod ByteLaws
 pub mod BitLaws
 pub mod FieldLaws
-pub mod WordLaws
-pub mod CountedLaws
 pub mod EightLaws
+pub mod SeenLaws
+pub mod FiveLaws

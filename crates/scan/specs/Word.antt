@@ -1,5 +1,5 @@
 -- A slot as one number, and what is added to it so that a field above its limit reaches the field's top bit.
-use Rattle.std.specs.Prelude.{ℕ, ◌+◌, ◌-◌, ◌*◌, ◌%◌, ◌<◌, Bool, ◌&&◌, List, [], ◌∷◌, eqb, get_or}
+use Rattle.std.specs.Prelude.{ℕ, ◌+◌, ◌-◌, ◌*◌, ◌%◌, ◌<◌, Bool, List, [], ◌∷◌, eqb, get_or}
 use Rattle.std.specs.Int.Bits.{bit_and}
 
 -- five fields, eight bits apart, the first lowest
@@ -36,13 +36,9 @@ rooms s g =
     ∷ packed 0 (128 - s) (128 - s) (128 - s) (256 - g)
     ∷ []
 
--- rooms that can be added to a slot's number within 64 bits
-abbrev pub Roomy : List ℕ → Type 0
-Roomy room = (j : ℕ) → get_or room j 0 < 2199023255552
-
--- the test of a slot as one number: it is clear, and with the room of its kind too
-abbrev pub word_good : List ℕ → ℕ → Bool
-word_good room x = clear slot_mask x && clear slot_mask (x + get_or room (x % 4) 0)
+-- rooms that can be added to seven bytes within 64 bits
+abbrev pub Low : List ℕ → Type 0
+Low room = (j : ℕ) → get_or room j 0 < 72057594037927936
 
 -- by kind, what a slot adds to the count of empty slots
 abbrev pub ones : List ℕ

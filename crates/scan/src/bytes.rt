@@ -12,13 +12,10 @@ pub fn all_below(bytes: &[u8], n: u8) -> bool
     ensures { result ≡ all_below n bytes.now }
 {
     let mut largest: u8 = 0;
-    let mut i = 0;
-    while i < bytes.len() {
-        let x = bytes[i];
-        if largest < x {
-            largest = x;
+    for x in bytes {
+        if largest < *x {
+            largest = *x;
         }
-        i += 1;
     }
     largest < n
 }
@@ -36,15 +33,13 @@ fn streams_shown(bytes: &[u8], q: usize) -> u64
     ensures { clear bit_mask result ≡ every (q * 32) (byte_below 2 bytes.now) }
 {
     let mut seen: u64 = 0;
-    let mut i = 0;
-    while i < q {
+    for i in 0..q {
         let at = i * 8;
         let words = eight_at(bytes, at)
             | eight_at(bytes, q * 8 + at)
             | eight_at(bytes, q * 16 + at)
             | eight_at(bytes, q * 24 + at);
-        seen = seen | words;
-        i += 1;
+        seen |= words;
     }
     seen
 }

@@ -2,5 +2,5 @@
 #![tactic(auto)]
 
 pub mod bytes;
-pub mod counted;
+pub mod form;
 pub mod word;

@@ -1,18 +1,15 @@
--- Four numbers more, of none of which the question holds.
-use Prim.Native.Nat.{ℕ, ◌+◌}
+-- Whether a question holds of some number below an end, where the search has come to a number and found none.
+use Prim.Native.Nat.{ℕ, ◌+◌, ◌≤◌}
 use mathlib.Core.Path.{◌≡◌, sym, ◌∙◌}
-use mathlib.Core.Bool.{Bool, false}
+use mathlib.Core.Bool.{Bool, true, false}
 use native.Mathlib.Omega.{arith}
 use Rattle.model.specs.Questions.{some}
-use Rattle.model.proofs.QuestionLaws.{some_more}
+use Rattle.model.proofs.QuestionLaws.{some_more, some_there, some_has}
 
-module _ (P : ℕ → Bool) (i : ℕ) where
-  pub none_more : some i P ≡ false → P i ≡ false → some (i + 1) P ≡ false
-  none_more e f = sym (some_more P i (sym e)) ∙ f
+module _ (P : ℕ → Bool) where
+  pub none_more : (i : ℕ) → some i P ≡ false → P i ≡ false → some (i + 1) P ≡ false
+  none_more i e f = sym (some_more P i (sym e)) ∙ f
 
-pub none_four : (P : ℕ → Bool) (i : ℕ) → some i P ≡ false → P i ≡ false → P (i + 1) ≡ false → P (i + 2) ≡ false → P (i + 3) ≡ false → some (i + 4) P ≡ false
-none_four P i none no-1 no-2 no-3 no-4 =
-    let two : i + 1 + 1 ≡ i + 2 = omega arith in
-    let three : i + 2 + 1 ≡ i + 3 = omega arith in
-    let four : i + 3 + 1 ≡ i + 4 = omega arith in
-    rw four at (none_more P (i + 3) (rw three at (none_more P (i + 2) (rw two at (none_more P (i + 1) (none_more P i none no-1) no-2)) no-3)) no-4)
+  -- what some number before an end has, some number before a later one has
+  pub some_longer : (k n : ℕ) → some k P ≡ true → k ≤ n → some n P ≡ true
+  some_longer k n e l = let h = some_has P k e in some_there P n _ (omega (arith, h.0)) h.1

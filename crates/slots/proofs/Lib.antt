@@ -1,5 +1,4 @@
 -- What the proofs of the functions cite, and what is true of shares and sheets over any layout.
-pub mod KindLaws
 pub mod LowestLaws
 pub mod PointerLaws
 pub mod HeldLaws

@@ -1,1 +1,3 @@
 pub mod FirstSlots
+pub mod Counted
+pub mod Within

@@ -4,7 +4,6 @@ ghost use Rattle.model.specs.Messages.{kind_of};
 ghost use Rattle.model.specs.Survey.{column as column_of};
 ghost use Rattle.slots.specs.FirstSlots.{amount as amount_of};
 
-use crate::weight::one_if;
 use model::Posted;
 
 // The row of a message: the first for a COPY, then DEC, INC_DEC.
@@ -12,10 +11,9 @@ pub fn row(m: Posted) -> usize
     ensures { result ≡ kind_of m - 1 }
 {
     match m {
-        Posted::Copy { .. } => 0,
+        Posted::Copy { .. } | Posted::Nothing => 0,
         Posted::Dec { .. } => 1,
         Posted::IncDec { .. } => 2,
-        Posted::Nothing => 0,
     }
 }
 
@@ -36,9 +34,9 @@ pub fn amount(p: u8, m: Posted) -> u32
     ensures { result ≡ amount_of p m }
 {
     match m {
-        Posted::Copy { pointer, .. } => one_if(pointer == p),
-        Posted::Dec { pointer, .. } => one_if(pointer == p),
-        Posted::IncDec { pointer, .. } => one_if(pointer == p),
+        Posted::Copy { pointer, .. }
+        | Posted::Dec { pointer, .. }
+        | Posted::IncDec { pointer, .. } => u32::from(pointer == p),
         Posted::Nothing => 0,
     }
 }

@@ -1,19 +1,9 @@
 // What one message counts in a share: scalars and the message alone, no table (Document 01, Share and sheet).
 ghost use Rattle.std.specs.Prelude.{◌≡◌, ◌+◌, ◌<◌};
-ghost use Rattle.model.specs.Refusals.{◌when◌};
 ghost use Rattle.model.specs.Survey.{copies, decs, inc_decs, balance as balance_of};
 
 use model::Posted;
-
-// 1 where a test holds, else 0.
-pub fn one_if(test: bool) -> u32
-    ensures { result ≡ 1 when test }
-{
-    if test {
-        return 1;
-    }
-    0
-}
+use rules::message::is_inc_dec;
 
 // Plus: a DEC from the site to the owner, a COPY from the owner to it.
 pub fn plus(site: u8, owner: u8, p: u8, m: Posted) -> u32
@@ -21,13 +11,12 @@ pub fn plus(site: u8, owner: u8, p: u8, m: Posted) -> u32
 {
     match m {
         Posted::Copy { from, to, pointer } => {
-            one_if((from == owner) & (to == site) & (pointer == p))
+            u32::from((from == owner) & (to == site) & (pointer == p))
         }
         Posted::Dec { from, to, pointer } => {
-            one_if((from == site) & (to == owner) & (pointer == p))
+            u32::from((from == site) & (to == owner) & (pointer == p))
         }
-        Posted::IncDec { .. } => 0,
-        Posted::Nothing => 0,
+        Posted::IncDec { .. } | Posted::Nothing => 0,
     }
 }
 
@@ -35,19 +24,10 @@ pub fn plus(site: u8, owner: u8, p: u8, m: Posted) -> u32
 pub fn minus(site: u8, owner: u8, p: u8, m: Posted) -> u32
     ensures { result ≡ inc_decs site owner p m }
 {
-    match m {
-        Posted::Copy { .. } => 0,
-        Posted::Dec { .. } => 0,
-        Posted::IncDec {
-            from,
-            to,
-            pointer,
-            ..
-        } => one_if((from == site) & (to == owner) & (pointer == p)),
-        Posted::Nothing => 0,
-    }
+    u32::from(is_inc_dec(site, owner, p, m))
 }
 
+#[tactic(auto, unfolding(model::specs::Survey::balance))]
 // Plus less minus, one signed whole number.
 pub fn balance(plus: u32, minus: u32) -> i32
     requires { (plus < 2147483648) × (minus < 2147483648) }

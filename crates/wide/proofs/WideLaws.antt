@@ -4,37 +4,24 @@ use mathlib.Core.Path.{◌≡◌, refl, sym, ap, ap₂, ◌∙◌}
 use mathlib.Core.Bool.{Bool, true, ◌&&◌, cond}
 use mathlib.Core.List.{List}
 use native.Mathlib.Omega.{arith}
-use lib.Bits.{bit_and, and_block, and_high, and_mask, and_le_r}
+use lib.Bits.{bit_and, and_block, and_high, and_mask}
 use lib.Dec.{eqb}
 use lib.ListN.{get_or}
-use mir.Syntax.{w8}
-use mir.Val.{Fits}
 use borrow.Author.Tests.{eqb-true, ne_eqb, lt-leb}
-use Rattle.model.specs.Questions.{every, how_many}
+use Rattle.model.specs.Questions.{every}
 use Rattle.model.specs.Tables.{at_slot, slot_good, slots_of, empty_at, all_slots_good}
 use Rattle.in_order.specs.Ordered.{number_good, all_numbers_good}
 use Rattle.model.proofs.TestLaws.{same_test, true_not_false, and_both, and_true}
-use Rattle.model.proofs.QuestionLaws.{every_at}
-use Rattle.scan.specs.Word.{packed, eight, eight_at, clear, slot_mask, rooms}
+use Rattle.scan.specs.Word.{packed, eight, clear, slot_mask, rooms, Low}
+use Rattle.scan.specs.Form.{number_at, word_good, good_at, counted_at, Sound}
 use Rattle.scan.proofs.FieldLaws.{masked_block, masked, no_field}
-use Rattle.scan.proofs.WordLaws.{word_good_lem, rooms_roomy, eight_cut}
+use Rattle.scan.proofs.FiveLaws.{packed_good_lem, rooms_low, eight_cut}
 use Rattle.scan.proofs.EightLaws.{both}
-use Rattle.scan.proofs.CountedLaws.{same_count}
 use Rattle.wide.proofs.KeepLaws.{full_keep, same_kept, kind_kept}
-use Rattle.wide.specs.Wide.{seven_at, keeps, wide_mask, wide_rooms, WideRoomy, looked, wide_good, seven_good, seven_empty}
+use Rattle.wide.specs.Wide.{keeps, wide_mask, wide_rooms, looked, seven}
 
 -- ---- sums within 64 bits
-keeps_low : (j : ℕ) → get_or keeps j 0 < 72057594037927936
-keeps_low zero = omega arith
-keeps_low (suc zero) = omega arith
-keeps_low (suc (suc zero)) = omega arith
-keeps_low (suc (suc (suc zero))) = omega arith
-keeps_low (suc (suc (suc (suc j)))) = omega arith
-
-pub kept_low : (keep : List ℕ) (x j : ℕ) → keep ≡ keeps → bit_and x (get_or keep j 0) < 72057594037927936
-kept_low keep x j e = rw e (omega (arith, and_le_r x (get_or keeps j 0), keeps_low j))
-
-pub rooms_wide : (s g : ℕ) → WideRoomy (wide_rooms s g)
+pub rooms_wide : (s g : ℕ) → Low (wide_rooms s g)
 rooms_wide s g zero = omega arith
 rooms_wide s g (suc zero) = omega arith
 rooms_wide s g (suc (suc zero)) = omega arith
@@ -45,10 +32,8 @@ rooms_wide s g (suc (suc (suc (suc j)))) = omega arith
 abbrev tested : ℕ → ℕ → Bool
 tested y room = clear wide_mask y && clear wide_mask (y + room)
 
--- what is looked at, by a list that is that of the kinds
-pub kept_good : (keep room : List ℕ) (x : ℕ) → keep ≡ keeps
-    → (clear wide_mask (bit_and x (get_or keep (x % 4) 0)) && clear wide_mask (bit_and x (get_or keep (x % 4) 0) + get_or room (x % 4) 0)) ≡ wide_good room x
-kept_good keep room x e = ap (λ (l : List ℕ). tested (bit_and x (get_or l (x % 4) 0)) (get_or room (x % 4) 0)) e
+abbrev wide_good : List ℕ → ℕ → Bool
+wide_good room x = word_good seven room x
 
 -- ---- the byte above seven does not matter
 seven_same : (room : List ℕ) (x : ℕ) → wide_good room x ≡ wide_good room (x % 72057594037927936)
@@ -103,29 +88,29 @@ module _ (s g from to third p high low : ℕ) (f : from < 256) (t : to < 256) (h
   abbrev word : ℕ → ℕ
   word kind = packed kind from to third p
 
-  abbrev seven : ℕ → ℕ
-  seven kind = eight kind from to third p high low 0
+  abbrev bytes : ℕ → ℕ
+  bytes kind = eight kind from to third p high low 0
 
   abbrev number : ℕ → Bool
   number kind = cond (eqb kind 0) (eqb high 0 && eqb low 0) true
 
   -- a full one: five bytes are looked at
-  full_good : (kind j : ℕ) → kind < 256 → j < 3 → seven kind % 4 ≡ suc j → get_or (wide_rooms s g) (suc j) 0 ≡ get_or (rooms s g) (suc j) 0
-      → s ≤ 64 → g ≤ 256 → wide_good (wide_rooms s g) (seven kind) ≡ slot_good s g kind from to third p
+  full_good : (kind j : ℕ) → kind < 256 → j < 3 → bytes kind % 4 ≡ suc j → get_or (wide_rooms s g) (suc j) 0 ≡ get_or (rooms s g) (suc j) 0
+      → s ≤ 64 → g ≤ 256 → wide_good (wide_rooms s g) (bytes kind) ≡ slot_good s g kind from to third p
   full_good kind j k l e er ls lg =
-      let x = seven kind in
+      let x = bytes kind in
       let y = word kind in
       let e' : y % 4 ≡ suc j = omega arith in
       let cut : looked x ≡ y = ap (λ (i : ℕ). bit_and x (get_or keeps i 0)) e ∙ ap (bit_and x) (full_keep j l) ∙ and_mask x 40 ∙ eight_cut kind from to third p high low 0 k f t h q in
       let room : get_or (wide_rooms s g) (x % 4) 0 ≡ get_or (rooms s g) (y % 4) 0 = ap (λ (i : ℕ). get_or (wide_rooms s g) i 0) e ∙ er ∙ sym (ap (λ (i : ℕ). get_or (rooms s g) i 0) e') in
       ap₂ tested cut room
-      ∙ ap₂ ◌&&◌ (low_clear y (omega arith)) (low_clear (y + get_or (rooms s g) (y % 4) 0) (omega (arith, rooms_roomy s g (y % 4))))
-      ∙ word_good_lem s g from to third p f t h q kind k ls lg
+      ∙ ap₂ ◌&&◌ (low_clear y (omega arith)) (low_clear (y + get_or (rooms s g) (y % 4) 0) (omega (arith, rooms_low s g (y % 4))))
+      ∙ packed_good_lem s g from to third p f t h q kind k ls lg
 
   -- an empty one: all seven are
-  zeros : tested (seven 0) (get_or (wide_rooms s g) 0 0) ≡ true → (from ≡ 0) × (to ≡ 0) × (third ≡ 0) × (p ≡ 0) × (high ≡ 0) × (low ≡ 0)
+  zeros : tested (bytes 0) (get_or (wide_rooms s g) 0 0) ≡ true → (from ≡ 0) × (to ≡ 0) × (third ≡ 0) × (p ≡ 0) × (high ≡ 0) × (low ≡ 0)
   zeros tests =
-      let x = seven 0 in
+      let x = bytes 0 in
       let sum = x + get_or (wide_rooms s g) 0 0 in
       let b = and_both (clear wide_mask x) (clear wide_mask sum) tests in
       let n = high + low * 256 in
@@ -143,9 +128,9 @@ module _ (s g from to third p high low : ℕ) (f : from < 256) (t : to < 256) (h
       ∙ eqb-true (bit_and (packed 0 (from + 127) (to + 127) (third + 127) p'') slot_mask) 0 second) in
       (zero_field from (omega (arith, z.3)) z'.3, zero_field to (omega (arith, z.2)) z'.2, zero_field third (omega (arith, z.1)) z'.1, omega (arith, z'.0, no_number), omega arith, omega arith)
 
-  empty_good : wide_good (wide_rooms s g) (seven 0) ≡ (slot_good s g 0 from to third p && (eqb high 0 && eqb low 0))
+  empty_good : wide_good (wide_rooms s g) (bytes 0) ≡ (slot_good s g 0 from to third p && (eqb high 0 && eqb low 0))
   empty_good =
-      let x = seven 0 in
+      let x = bytes 0 in
       let e : x % 4 ≡ 0 = omega arith in
       let whole : x % 72057594037927936 ≡ x = omega arith in
       let cut : looked x ≡ x = ap (λ (i : ℕ). bit_and x (get_or keeps i 0)) e ∙ and_mask x 56 ∙ whole in
@@ -160,49 +145,64 @@ module _ (s g from to third p high low : ℕ) (f : from < 256) (t : to < 256) (h
       let a1 = and_both (eqb from 0) (eqb to 0) a2.0 in
       rw (eqb-true from 0 a1.0, eqb-true to 0 a1.1, eqb-true third 0 a2.1, eqb-true p 0 a3.1, eqb-true high 0 numbers.0, eqb-true low 0 numbers.1))
 
-  wide_good_lem : (kind : ℕ) → kind < 256 → s ≤ 64 → g ≤ 256 → wide_good (wide_rooms s g) (seven kind) ≡ (slot_good s g kind from to third p && number kind)
+  wide_good_lem : (kind : ℕ) → kind < 256 → s ≤ 64 → g ≤ 256 → wide_good (wide_rooms s g) (bytes kind) ≡ (slot_good s g kind from to third p && number kind)
   wide_good_lem zero k ls lg = empty_good
   wide_good_lem (suc zero) k ls lg = full_good 1 0 k (omega arith) (omega arith) refl ls lg ∙ sym (and_true (slot_good s g 1 from to third p))
   wide_good_lem (suc (suc zero)) k ls lg = full_good 2 1 k (omega arith) (omega arith) refl ls lg ∙ sym (and_true (slot_good s g 2 from to third p))
   wide_good_lem (suc (suc (suc zero))) k ls lg = full_good 3 2 k (omega arith) (omega arith) refl ls lg ∙ sym (and_true (slot_good s g 3 from to third p))
   wide_good_lem (suc (suc (suc (suc n)))) k ls lg =
       let kind = suc (suc (suc (suc n))) in
-      same_test (wide_good (wide_rooms s g) (seven kind)) (slot_good s g kind from to third p && number kind)
-      (λ e. let l = looked_kind (wide_rooms s g) (seven kind) e in absurd (omega arith))
+      same_test (wide_good (wide_rooms s g) (bytes kind)) (slot_good s g kind from to third p && number kind)
+      (λ e. let l = looked_kind (wide_rooms s g) (bytes kind) e in absurd (omega arith))
       (λ e.
       let good = (and_both (slot_good s g kind from to third p) (number kind) e).0 in
       true_not_false (sym good ∙ simp (ne_eqb kind 0 (λ z. omega arith), lt-leb kind 3 (omega arith))))
 
 -- ---- a slot of a pool of bytes
-module _ (pool : List ℕ) (bytes : (j : ℕ) → Fits w8 (get_or pool j 0)) where
-  byte : (j : ℕ) → get_or pool j 0 < 256
-  byte j = omega (arith, bytes j)
+module _ (pool : List ℕ) (byte : (j : ℕ) → get_or pool j 0 < 256) where
+  -- the seven bytes of slot i as one number
+  abbrev pub seven_at : ℕ → ℕ
+  seven_at i =
+      eight (get_or pool (i * 7) 0) (get_or pool (i * 7 + 1) 0) (get_or pool (i * 7 + 2) 0) (get_or pool (i * 7 + 3) 0)
+      (get_or pool (i * 7 + 4) 0) (get_or pool (i * 7 + 5) 0) (get_or pool (i * 7 + 6) 0) 0
 
-  -- what is read with the byte that follows
-  pub seven_good_lem : (room : List ℕ) (i : ℕ) → wide_good room (eight_at pool (i * 7)) ≡ seven_good room pool i
-  seven_good_lem room i =
-      seven_same room (eight_at pool (i * 7))
-      ∙ ap (wide_good room) (seven_cut _ _ _ _ _ _ _ _ (byte (i * 7)) (byte (i * 7 + 1)) (byte (i * 7 + 2)) (byte (i * 7 + 3)) (byte (i * 7 + 4)) (byte (i * 7 + 5)) (byte (i * 7 + 6)))
+  cut_at : (i : ℕ) → number_at seven pool i % 72057594037927936 ≡ seven_at i
+  cut_at i = seven_cut _ _ _ _ _ _ _ _ (byte (i * 7)) (byte (i * 7 + 1)) (byte (i * 7 + 2)) (byte (i * 7 + 3)) (byte (i * 7 + 4)) (byte (i * 7 + 5)) (byte (i * 7 + 6))
 
-  slot_good_lem : (s g i : ℕ) → s ≤ 64 → g ≤ 256 → seven_good (wide_rooms s g) pool i ≡ (at_slot 7 (slot_good s g) pool i && number_good pool i)
+  -- so they are looked at alone, and hold the kind
+  pub alone_at : (i : ℕ) {x : ℕ} → x ≡ seven_at i → (x % 4 ≡ number_at seven pool i % 4) × (looked x ≡ looked (number_at seven pool i))
+  alone_at i e =
+      let n = number_at seven pool i in
+      let cut : n % 72057594037927936 ≡ _ = cut_at i ∙ sym e in
+      let k : n % 4 ≡ n % 72057594037927936 % 4 = omega arith in (
+        sym (k ∙ ap (λ (y : ℕ). y % 4) cut),
+        sym (same_kept (n % 4) n (omega arith) ∙ ap₂ (λ (y j : ℕ). bit_and y (get_or keeps j 0)) cut (k ∙ ap (λ (y : ℕ). y % 4) cut)),
+      )
+
+  seven_good : (room : List ℕ) (i : ℕ) → good_at seven room pool i ≡ wide_good room (seven_at i)
+  seven_good room i = seven_same room (number_at seven pool i) ∙ ap (wide_good room) (cut_at i)
+
+  slot_good_lem : (s g i : ℕ) → s ≤ 64 → g ≤ 256 → good_at seven (wide_rooms s g) pool i ≡ (at_slot 7 (slot_good s g) pool i && number_good pool i)
   slot_good_lem s g i ls lg =
-      wide_good_lem s g _ _ _ _ _ _ (byte (i * 7 + 1)) (byte (i * 7 + 2)) (byte (i * 7 + 3)) (byte (i * 7 + 4)) (byte (i * 7 + 5)) (byte (i * 7 + 6)) _ (byte (i * 7)) ls lg
+      seven_good (wide_rooms s g) i
+      ∙ wide_good_lem s g _ _ _ _ _ _ (byte (i * 7 + 1)) (byte (i * 7 + 2)) (byte (i * 7 + 3)) (byte (i * 7 + 4)) (byte (i * 7 + 5)) (byte (i * 7 + 6)) _ (byte (i * 7)) ls lg
 
   -- every slot and every number is good where every slot as one number is
-  pub sevens_good : (s g : ℕ) {room : List ℕ} → room ≡ wide_rooms s g → s ≤ 64 → g ≤ 256 → every (slots_of 7 pool) (seven_good room pool) ≡ (all_slots_good 7 s g pool && all_numbers_good pool)
+  sevens_good : (s g : ℕ) → s ≤ 64 → g ≤ 256 → every (slots_of 7 pool) (good_at seven (wide_rooms s g) pool) ≡ (all_slots_good 7 s g pool && all_numbers_good pool)
   unfolding all_slots_good all_numbers_good
-  sevens_good s g {room} er ls lg =
+  sevens_good s g ls lg =
       let n = slots_of 7 pool in
-      ap (λ (r : List ℕ). every n (seven_good r pool)) er
-      ∙ (λ w. every n (λ k. slot_good_lem s g k ls lg w))
-      ∙ both (at_slot 7 (slot_good s g) pool) (number_good pool) n
+      (λ w. every n (λ k. slot_good_lem s g k ls lg w)) ∙ both (at_slot 7 (slot_good s g) pool) (number_good pool) n
 
   -- where all slots are good, those that are counted are the empty ones
-  kind_read : (room : List ℕ) (i : ℕ) → seven_good room pool i ≡ true → seven_empty pool i ≡ empty_at 7 pool i
+  kind_read : (room : List ℕ) (i : ℕ) → good_at seven room pool i ≡ true → counted_at seven pool i ≡ empty_at 7 pool i
   kind_read room i e =
-      let l = looked_kind room (seven_at pool i) e in
-      let k : eight_at pool (i * 7) % 4 ≡ get_or pool (i * 7) 0 = omega (arith, l, byte (i * 7)) in
+      let l = looked_kind room (number_at seven pool i) e in
+      let k : number_at seven pool i % 4 ≡ get_or pool (i * 7) 0 = omega (arith, l, byte (i * 7)) in
       ap (λ (n : ℕ). eqb n 0) k
 
-  pub empties_counted : (room : List ℕ) (m n : ℕ) → m ≤ n → every n (seven_good room pool) ≡ true → how_many m (seven_empty pool) ≡ how_many m (empty_at 7 pool)
-  empties_counted room m n l e = same_count m _ _ (λ i li. kind_read room i (every_at (seven_good room pool) n i (omega arith) e))
+pub seven_sound : (s g : ℕ) → s ≤ 64 → g ≤ 256 → Sound seven s g (wide_rooms s g)
+seven_sound s g ls lg = record {
+  tested = λ pool byte. sevens_good pool byte s g ls lg;
+  counted = λ pool byte i. kind_read pool byte (wide_rooms s g) i;
+}

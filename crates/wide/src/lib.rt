@@ -1,5 +1,4 @@
 // Whether every slot of seven bytes is good, eight bytes at a time (Document 02, Three).
 #![tactic(auto)]
 
-pub mod counted;
 pub mod word;

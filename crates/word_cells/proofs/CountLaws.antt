@@ -8,7 +8,7 @@ use lib.Dec.{ltb}
 use lib.ListN.{length}
 use borrow.Author.Tests.{eqb-true, ltb-true, lt-ltb}
 use Rattle.model.specs.declared.Posted.TheVariants.{Nothing}
-use Rattle.model.specs.declared.Answer.{Answer}
+use Rattle.model.specs.Answers.{Answer}
 use Rattle.model.specs.Questions.{total}
 use Rattle.model.specs.Answers.{accepted, refused, unless}
 use Rattle.model.specs.Calls.{lent_refusal, front}

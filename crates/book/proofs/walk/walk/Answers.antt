@@ -1,16 +1,23 @@
--- `walk`: past i entries after i turns.
-use mathlib.Core.Path.{refl}
-use native.Mathlib.Omega.{arith}
+-- `walk`: past as many entries as turns; where there is no entry, the walk has left the book for good.
+use Rattle.std.proofs.Common.{◌+◌, refl, sym, arith}
 use Rattle.book.specs.Walk.{walked}
-use Rattle.book.proofs.EntryLaws.{walked_next}
+use Rattle.book.proofs.EntryLaws.{walked_next, walked_out}
 use Rattle.book.proofs.walk.walk.Goals as goal
 
-pub loop-i-init : goal.loop-i-init
+pub loop-init : goal.loop-init
 unfolding walked
-loop-i-init c = (omega arith, refl)
+loop-init c = (refl, omega arith)
 
-pub loop-i-preserved : goal.loop-i-preserved
-loop-i-preserved c =
-    let l = c.loop-i in
+pub returns-in_err-at-clause-place : goal.returns-in_err-at-clause-place
+returns-in_err-at-clause-place c =
+    let l = c.loop in
     let a = c.args in
-    (omega arith, walked_next a.least a.book.now a.from l.i l.invariant.1 c.entry_end-at.ensures)
+    let out = walked_next a.least a.book.now 0 l.counter l.invariant.0 c.in_err-at.ensures.place in
+    let far = walked_out a.least a.book.now (l.counter + 1) a.n (omega arith) (sym out) in
+    cc
+
+pub loop-preserved : goal.loop-preserved
+loop-preserved c =
+    let l = c.loop in
+    let a = c.args in
+    (walked_next a.least a.book.now 0 l.counter l.invariant.0 c.in_ok-at.ensures.place, c.in_ok-at.ensures.inside.1)

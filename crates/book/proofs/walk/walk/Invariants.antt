@@ -1,11 +1,7 @@
--- `walk`: past i entries after i turns.
-use Prim.Native.Nat.{◌≤◌, ◌-◌}
-use mathlib.Core.Path.{◌≡◌}
+-- `walk`: past as many entries as turns.
+use Rattle.std.proofs.Common.{◌≡◌, ◌≤◌, length}
 use Rattle.book.specs.Walk.{walked}
 use Rattle.book.proofs.walk.walk.Given as goal
 
-abbrev pub invariant-loop-i : goal.invariant-loop-i
-invariant-loop-i l = (l.i ≤ l.n) × (l.at ≡ walked l.least l.book l.from l.i)
-
-abbrev pub decreases-loop-i : goal.decreases-loop-i
-decreases-loop-i l = l.n - l.i
+abbrev pub invariant-loop : goal.invariant-loop
+invariant-loop l = (l.at ≡ walked l.least l.book 0 l.counter) × (l.at ≤ length l.book)

@@ -1,4 +1,4 @@
--- The largest byte so far is below n where every byte so far is.
+-- The larger of the largest so far and the next byte is the largest then.
 use Prim.Native.Nat.{max}
 use mathlib.Core.Path.{◌≡◌, ◌∙◌}
 use native.Mathlib.Omega.{arith}
@@ -11,18 +11,17 @@ use Rattle.scan.proofs.ByteLaws.{larger_below}
 use Rattle.scan.proofs.bytes.all_below.Goals as goal
 use Rattle.scan.proofs.bytes.all_below.Goals.{else-largest-x, then-largest-x}
 
-pub loop-i-init : goal.loop-i-init
+pub loop-x-init : goal.loop-x-init
 unfolding every
-loop-i-init c = (omega arith, lt-ltb 0 c.args.n (omega arith))
+loop-x-init c = lt-ltb 0 c.args.n (omega arith)
 
-pub loop-i-preserved : goal.loop-i-preserved
-loop-i-preserved c =
-    let a = c.before.before.before.before.args in
-    let l = c.before.before.before.loop-i in
-    let x = get_or a.bytes.now l.i 0 in
+pub loop-x-preserved : goal.loop-x-preserved
+loop-x-preserved c =
+    let l = c.loop-x in
+    let x = get_or c.args.bytes.now l.x-index 0 in
     let e : c.if-largest-x.largest ≡ max l.largest x = elim c.if-largest-x.branch [ then-largest-x w ↦ omega arith | else-largest-x w ↦ omega arith ] in
-    (omega arith, larger_below l.largest x a.n e ∙ every_more _ l.i l.invariant.1)
+    larger_below l.largest x c.args.n e ∙ every_more _ l.x-index l.invariant
 
 pub returns : goal.returns
 unfolding all_below
-returns c = every_done _ c.before.loop-i.i (length c.before.before.args.bytes.now) (omega arith) (omega arith) c.before.loop-i.invariant.1
+returns c = every_done _ c.loop-x.x-index (length c.args.bytes.now) (omega arith) (omega arith) c.loop-x.invariant

@@ -1,12 +1,8 @@
--- Four slots a turn: the rows so far are the sheet of the slots so far.
-use Prim.Native.Nat.{◌-◌, ◌*◌, ◌≤◌}
-use mathlib.Core.Path.{◌≡◌}
+-- The rows so far are the sheet of the slots so far.
+use Rattle.std.proofs.Common.{◌≡◌, ◌*◌}
 use Rattle.model.specs.Tables.{message_at}
 use Rattle.slots.specs.FirstSlots.{entries as entries_of}
 use Rattle.slots.proofs.entries.entries.Given as goal
 
 abbrev pub invariant-loop-t : goal.invariant-loop-t
-invariant-loop-t l = (l.t ≤ l.turns) × (l.rows ≡ entries_of (message_at 5 l.pool) l.p (l.t * 4))
-
-abbrev pub decreases-loop-t : goal.decreases-loop-t
-decreases-loop-t l = l.turns - l.t
+invariant-loop-t g l = l.rows ≡ entries_of (message_at g.row.W l.pool) l.p (l.t * 4)

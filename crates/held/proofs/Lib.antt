@@ -1,0 +1,2 @@
+-- What is true of the calls.
+pub mod NoTwoOutcomes

@@ -1,0 +1,42 @@
+// Delete (Document 01, The calls).
+// No struct of S, owners and tables: C lends them one by one, and which of them may be written differs from call to call (host/pointer_desk.h).
+ghost use Rattle.std.specs.Prelude.{◌≡◌};
+ghost use Rattle.model.specs.Flat.{held_slots};
+ghost use Rattle.model.specs.Tables.{lent};
+ghost use Rattle.model.specs.Parts.{desk_of};
+ghost use Rattle.model.specs.Calls.{delete as delete_of};
+ghost use Rattle.rules.specs.Turned.{told};
+
+use lent::cells::Cell;
+use lent::desk::Lent;
+use lent::held_slots::HeldSlots;
+use rules::answer::Accepted;
+use rules::refusal::Refusal;
+use slots::slot::write_slot;
+
+#[tactic(auto, using(rules::proofs::TurnedLaws::err_unless), unfolding(model::specs::Calls::delete))]
+// The receive cell becomes 0; DEC(site, owner) goes to the lowest empty slot; the value is that slot; how many were empty before is told.
+pub fn delete<C: Cell>(
+    s: u8,
+    owners: &[u8],
+    send: &[u16],
+    receive: &mut [C],
+    pool: &mut [u8],
+    site: u8,
+    pointer: u8,
+) -> Result<Accepted, Refusal>
+    ensures { record { answer = told result; desk = lent s owners.now send.now receive.new pool.new }
+        ≡ delete_of (desk_of C.table held_slots) (lent s owners.now send.now receive.old pool.old) site pointer }
+{
+    let slots = HeldSlots::new(&pool[..]);
+    let change = Lent::new(s, owners, send, &receive[..], slots).delete(site, pointer)?;
+    C::set_in(
+        owners.len(),
+        receive,
+        change.site,
+        change.pointer,
+        change.cell,
+    );
+    write_slot(pool, change.slot, change.answer.posted);
+    Ok(change.answer)
+}

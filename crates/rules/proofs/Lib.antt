@@ -1,0 +1,3 @@
+-- What is true of what functions answer.
+pub mod TurnedLaws
+pub mod OneAnswer

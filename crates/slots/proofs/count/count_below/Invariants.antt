@@ -1,0 +1,8 @@
+-- What is counted so far is the count over the slots so far.
+use Rattle.std.proofs.Common.{◌≡◌}
+use Rattle.model.specs.Tables.{message_at}
+use Rattle.slots.specs.Counted.{counts_of}
+use Rattle.slots.proofs.count.count_below.Given as goal
+
+abbrev pub invariant-loop-slot : goal.invariant-loop-slot
+invariant-loop-slot g l = l.counts ≡ counts_of (message_at g.row.W l.pool) l.slot l.site l.owner l.p

@@ -1,5 +1,0 @@
--- What the proofs of the functions cite, and what is true of what they answer.
-pub mod KnownLaws
-pub mod NoTwoOutcomes
-pub mod NoTwoAnswers
-pub mod ShareAndSheet
