@@ -4,7 +4,8 @@ use Rattle.model.specs.Answers.{Outcome}
 use Rattle.model.specs.Layout.{Layout}
 use Rattle.model.specs.Laws.{Inside}
 use Rattle.model.specs.Parts.{ReceiveTable, Pool, desk_of}
-use Rattle.model.specs.Tables.{Lent, lent, all_below}
+use Rattle.model.specs.Questions.{lowest, how_many}
+use Rattle.model.specs.Tables.{Lent, Empties, lent, all_below}
 use Rattle.model.specs.Survey.{Share, blank_sheet}
 use Rattle.rules.specs.declared.refusal.Refusal.{Refusal}
 use Rattle.rules.specs.Turned.{number_of, told}
@@ -19,6 +20,10 @@ share_told (Err refusal) = record { number = number_of refusal; share = pos 0 }
 abbrev pub rows_told : Result (List (List ℕ)) Refusal → List (List ℕ)
 rows_told (Ok rows) = rows
 rows_told (Err refusal) = blank_sheet
+
+-- what the search of a pool answers: over slots of w bytes it is `searched w` of model
+abbrev pub searched_in : {Q : Type 0} → Pool Q → Q → Empties
+searched_in P q = record { slot = lowest (P.slots q) (P.empty q); count = how_many (P.slots q) (P.empty q) }
 
 module _ {R Q : Type 0} (T : ReceiveTable R) (P : Pool Q) (d : Lent R Q) where
   abbrev L : Layout (Lent R Q)

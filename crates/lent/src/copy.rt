@@ -28,8 +28,8 @@ impl<'a, C: Cell, P: Slots> Lent<'a, C, P> {
         let at = place_of(g, from, pointer);
         let counter = self.send[at];
         let cell = C::cell_in(g, self.receive, from, pointer);
-        let lowest = self.pool.lowest_empty();
-        let slot = copy_refusal(from, to, self.owners[p], cell, counter, lowest)?;
+        let found = self.pool.search(empties);
+        let slot = copy_refusal(from, to, self.owners[p], cell, counter, found.slot)?;
         let posted = Posted::Copy { from, to, pointer };
         Ok(Change {
             site: from,
@@ -38,7 +38,7 @@ impl<'a, C: Cell, P: Slots> Lent<'a, C, P> {
             counter: counter + 1,
             cell,
             slot,
-            answer: Accepted::telling(empties as u16, slot as u16, posted),
+            answer: Accepted::telling(found.count as u16, slot as u16, posted),
         })
     }
 }

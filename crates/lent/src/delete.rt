@@ -29,8 +29,8 @@ impl<'a, C: Cell, P: Slots> Lent<'a, C, P> {
         let counter = self.send[at];
         let cell = C::cell_in(g, self.receive, site, pointer);
         let owner = self.owners[p];
-        let lowest = self.pool.lowest_empty();
-        let slot = delete_refusal(site, owner, cell, counter, lowest)?;
+        let found = self.pool.search(empties);
+        let slot = delete_refusal(site, owner, cell, counter, found.slot)?;
         let posted = Posted::Dec {
             from: site,
             to: owner,
@@ -43,7 +43,7 @@ impl<'a, C: Cell, P: Slots> Lent<'a, C, P> {
             counter,
             cell: 0,
             slot,
-            answer: Accepted::telling(empties as u16, slot as u16, posted),
+            answer: Accepted::telling(found.count as u16, slot as u16, posted),
         })
     }
 }

@@ -11,7 +11,7 @@ use scan::word::Five;
 use slots::count::{Counts, count};
 use slots::entries::entries;
 use slots::held::held_refusal;
-use slots::lowest::lowest_empty;
+use slots::lowest::{Empties, search};
 use slots::slot::read_slot;
 use std::marker::Model;
 
@@ -65,8 +65,8 @@ impl<'a> Slots for HeldSlots<'a> {
         read_slot::<5>(self.bytes, slot)
     }
 
-    fn lowest_empty(&self) -> Option<usize> {
-        lowest_empty::<5>(self.bytes)
+    fn search(&self, count: usize) -> Empties {
+        search::<5>(self.bytes, count)
     }
 
     fn early(&self, s: u8, slot: usize) -> Result<(), Refusal> {

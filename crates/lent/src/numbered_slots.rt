@@ -11,7 +11,7 @@ use rules::refusal::{Refusal, when};
 use scan::form::{all_slots_good, slots_tested};
 use slots::count::{Counts, count};
 use slots::entries::entries;
-use slots::lowest::lowest_empty;
+use slots::lowest::{Empties, search};
 use slots::slot::read_slot;
 use std::marker::Model;
 use wide::word::Seven;
@@ -76,8 +76,8 @@ impl<'a> Slots for NumberedSlots<'a> {
         read_slot::<7>(self.bytes, slot)
     }
 
-    fn lowest_empty(&self) -> Option<usize> {
-        lowest_empty::<7>(self.bytes)
+    fn search(&self, count: usize) -> Empties {
+        search::<7>(self.bytes, count)
     }
 
     // 21: the slot's number is not its pair's next to receive.

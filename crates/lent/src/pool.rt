@@ -1,16 +1,18 @@
 // The pool, of slots of five bytes or of seven: how either is read and tested (Document 01, What the host lends; Document 02, Three).
 ghost use Rattle.std.specs.Prelude.{◌≡◌, ℕ, true, false, ◌≤◌, ◌<◌, List, cond, Some, None, IfSome};
-ghost use Rattle.model.specs.Questions.{lowest, how_many};
+ghost use Rattle.model.specs.Questions.{how_many};
 ghost use Rattle.model.specs.Survey.{column};
 ghost use Rattle.model.specs.Refusals.{◌when◌};
 ghost use Rattle.model.specs.Parts.{Pool, LawfulPool};
 ghost use Rattle.slots.specs.FirstSlots.{entries as entries_of};
 ghost use Rattle.slots.specs.Counted.{counts_of};
 ghost use Rattle.rules.specs.Turned.{number_in, slot_in};
+ghost use Rattle.lent.specs.Desks.{searched_in};
 
 use model::Posted;
 use rules::refusal::Refusal;
 use slots::count::Counts;
+use slots::lowest::Empties;
 
 // What a pool is, and what it counts and enters.
 pub trait Slots: Drop {
@@ -45,10 +47,11 @@ pub trait Slots: Drop {
         requires { slot < pool.slots self.now }
         ensures { result ≡ pool.message self.now slot };
 
-    // The lowest empty slot.
-    fn lowest_empty(&self) -> Option<usize>
-        ensures lowest { slot_in (pool.slots self.now) result ≡ lowest (pool.slots self.now) (pool.empty self.now) }
-        ensures inside { IfSome result (λ slot. slot < pool.slots self.now) };
+    // The search: the lowest empty slot, and how many are empty, which the test of the slots has counted.
+    fn search(&self, count: usize) -> Empties
+        requires { count ≡ how_many (pool.slots self.now) (pool.empty self.now) }
+        ensures found { record { slot = slot_in (pool.slots self.now) result.slot; count = result.count } ≡ searched_in pool self.now }
+        ensures inside { IfSome result.slot (λ slot. slot < pool.slots self.now) };
 
     // Why a slot's message comes too early.
     fn early(&self, s: u8, slot: usize) -> Result<(), Refusal>
