@@ -3,12 +3,12 @@ ghost use Rattle.std.specs.Prelude.{◌≡◌, [], ◌∷◌, ◌++◌, ◌+◌,
 ghost use Rattle.std.proofs.lemmas.List.Edits.{sets};
 ghost use Rattle.model.specs.Lines.{newline, digits_of, bytes_of, write_call};
 ghost use Rattle.model.specs.Transcript.{answer_bytes, answer_line};
-ghost use Rattle.rules.specs.Turned.{told};
+ghost use Rattle.rules.specs.Turned.{told, told_by};
 
 use crate::code::Code;
 use crate::digit::digit_of;
 use model::{Call, Posted};
-use rules::answer::Accepted;
+use rules::answer::{Accepted, Answer, Told};
 use rules::message::slot_bytes;
 use rules::refusal::Refusal;
 
@@ -44,12 +44,15 @@ fn write_line(text: &mut [u8], at: usize, bytes: &[u8])
 }
 
 // An answer's bytes: number, value, posted message as slot bytes.
-fn answer_bytes(answer: Result<Accepted, Refusal>) -> [u8; 8]
-    ensures { result ≡ answer_bytes (told answer) }
+fn answer_bytes<E: Told>(answer: Result<Accepted, E>) -> [u8; 8]
+    ensures { result ≡ answer_bytes (told_by E.tells answer) }
 {
     let (number, value, posted) = match answer {
         Ok(accepted) => (0, accepted.value, accepted.posted),
-        Err(refusal) => (u8::from(refusal), 0, Posted::Nothing),
+        Err(refusal) => {
+            let told: Answer = refusal.into();
+            (told.number, told.value, told.posted)
+        }
     };
     let [high, low] = value.to_be_bytes();
     let [kind, from, to, third, pointer] = slot_bytes(posted);
@@ -58,9 +61,9 @@ fn answer_bytes(answer: Result<Accepted, Refusal>) -> [u8; 8]
 
 #[tactic(auto, unfolding(model::specs::Transcript::answer_line))]
 // The line of an answer, 16 digits and a newline, at a place of a text.
-pub fn put_answer(text: &mut [u8], at: usize, answer: Result<Accepted, Refusal>)
+pub fn put_answer<E: Told>(text: &mut [u8], at: usize, answer: Result<Accepted, E>)
     requires { at + 17 ≤ length text.old }
-    ensures { text.new ≡ sets text.old at (answer_line (told answer)) }
+    ensures { text.new ≡ sets text.old at (answer_line (told_by E.tells answer)) }
 {
     write_line(text, at, &answer_bytes(answer));
 }

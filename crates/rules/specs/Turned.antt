@@ -6,6 +6,7 @@ use Rattle.model.specs.Messages.{Effect}
 use Rattle.rules.specs.declared.refusal.Refusal.{Refusal}
 use Rattle.rules.specs.declared.refusal.Refusal.TheVariants as name
 use Rattle.rules.specs.declared.answer.Accepted.{Accepted}
+use Rattle.rules.specs.declared.answer.Answer as any
 use Rattle.rules.specs.declared.effect.Becomes.{Becomes}
 use Rattle.model.specs.Refusals as number
 
@@ -38,10 +39,28 @@ abbrev pub number_in : {A : Type 0} → Result A Refusal → ℕ
 number_in (Ok a) = 0
 number_in (Err refusal) = number_of refusal
 
+-- a number for whatever may stand for a refusal
+abbrev pub Numbering : Type 0 → Type 0
+Numbering E = E → ℕ
+
+-- the number of what is answered, by such numbers
+abbrev pub number_by : {A E : Type 0} → Numbering E → Result A E → ℕ
+number_by f (Ok a) = 0
+number_by f (Err refusal) = f refusal
+
 -- the answer of a call: an accepted call has number 0; each refusal returns its number, value 0 and no message
 abbrev pub told : Result Accepted Refusal → Answer
 told (Ok a) = record { number = 0; value = a.value; empty = a.empty; posted = a.posted }
 told (Err refusal) = refused (number_of refusal)
+
+-- an answer as it is told
+abbrev pub answer_of : any.Answer → Answer
+answer_of a = record { number = a.number; value = a.value; empty = a.empty; posted = a.posted }
+
+-- the answer of a call, by what is told where it is not accepted
+abbrev pub told_by : {E : Type 0} → (E → Answer) → Result Accepted E → Answer
+told_by f (Ok a) = record { number = 0; value = a.value; empty = a.empty; posted = a.posted }
+told_by f (Err refusal) = f refusal
 
 -- the lowest empty slot; the slot count where none is empty
 abbrev pub slot_in : ℕ → Option ℕ → ℕ
@@ -52,3 +71,8 @@ slot_in slots None = slots
 abbrev pub effect_in : ℕ → ℕ → Result Becomes Refusal → Effect
 effect_in counter cell (Ok e) = record { number = 0; counter = e.counter; cell = e.cell; posted = e.posted }
 effect_in counter cell (Err refusal) = record { number = number_of refusal; counter = counter; cell = cell; posted = Nothing }
+
+-- what a receive decides, by such numbers
+abbrev pub effect_by : {E : Type 0} → Numbering E → ℕ → ℕ → Result Becomes E → Effect
+effect_by f counter cell (Ok e) = record { number = 0; counter = e.counter; cell = e.cell; posted = e.posted }
+effect_by f counter cell (Err refusal) = record { number = f refusal; counter = counter; cell = cell; posted = Nothing }

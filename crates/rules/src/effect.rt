@@ -1,9 +1,9 @@
 // What a receive decides: scalars and the message alone, no table (Document 01, The calls).
-ghost use Rattle.std.specs.Prelude.{◌≡◌};
+ghost use Rattle.std.specs.Prelude.{◌≡◌, IfErr};
 ghost use Rattle.model.specs.Messages.{decided};
-ghost use Rattle.rules.specs.Turned.{number_in, effect_in};
+ghost use Rattle.rules.specs.Turned.{number_by, effect_by};
 
-use crate::refusal::{Refusal, when};
+use crate::refusal::{Reason, Refusal, when};
 use crate::reply::reply_to_copy;
 use model::Posted;
 
@@ -16,19 +16,23 @@ pub struct Becomes {
 }
 
 // Of the message, the pointer's owner, the receiver's cell and counter, and whether it comes too early.
-pub fn decide(
+pub fn decide<E: Reason>(
     m: Posted,
     owner: u8,
     cell: u8,
     counter: u16,
-    early: Result<(), Refusal>,
-) -> Result<Becomes, Refusal>
-    ensures { effect_in counter cell result ≡ decided m owner cell counter (number_in early) }
+    early: Result<(), E>,
+) -> Result<Becomes, E>
+    ensures effect { effect_by E.number counter cell result ≡ decided m owner cell counter (number_by E.number early) }
+    ensures refused { IfErr result (λ refusal. ¬ E.number refusal ≡ 0) }
 {
-    early?;
+    if let Err(refusal) = early {
+        let number: u8 = refusal.into();
+        when(refusal, number != 0)?;
+    }
     match m {
         Posted::Copy { from, to, pointer } => {
-            when(Refusal::SameSite, from == to)?;
+            when(E::from(Refusal::SameSite), from == to)?;
             let posted = reply_to_copy(from, to, pointer, cell, owner);
             Ok(Becomes {
                 counter,
@@ -37,7 +41,7 @@ pub fn decide(
             })
         }
         Posted::Dec { .. } => {
-            when(Refusal::CounterZero, counter == 0)?;
+            when(E::from(Refusal::CounterZero), counter == 0)?;
             Ok(Becomes {
                 counter: counter - 1,
                 cell,
@@ -50,7 +54,7 @@ pub fn decide(
             pointer,
             ..
         } => {
-            when(Refusal::CounterFull, counter == 65535)?;
+            when(E::from(Refusal::CounterFull), counter == 65535)?;
             Ok(Becomes {
                 counter: counter + 1,
                 cell,

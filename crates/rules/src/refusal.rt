@@ -1,8 +1,10 @@
 // Refusals over scalars, in document 01's order (Why a call is turned down).
-ghost use Rattle.std.specs.Prelude.{◌≡◌, ℕ, ◌<◌, OnSome, IfOk, IfSome};
+ghost use Rattle.std.proofs.Common.{ap};
+ghost use Rattle.std.specs.Prelude.{◌≡◌, ℕ, ◌<◌, Ok, Err, OnSome, IfOk, IfSome, cond};
 ghost use Rattle.model.specs.Refusals.{◌when◌};
 ghost use Rattle.model.specs.Calls.{copy_refusal, delete_refusal};
-ghost use Rattle.rules.specs.Turned.{number_of, number_in, slot_in};
+ghost use Rattle.rules.specs.declared.refusal.Refusal.{Refusal};
+ghost use Rattle.rules.specs.Turned.{Numbering, number_of, number_in, number_by, slot_in};
 
 // Why a call is turned down, by name; its discriminant is its number (Document 01, Why a call is turned down).
 #[derive(Clone, Copy, Debug, PartialEq, Eq)]
@@ -39,9 +41,35 @@ impl From<Refusal> for u8 {
     }
 }
 
+// What may stand for a refusal: its name, or a number of one byte, of which 0 is no refusal's.
+pub trait Reason: Copy + From<Refusal> + Into<u8> {
+    ghost number: { Numbering Self };
+
+    ghost named: { (refusal : Refusal) (x : Self) → Self.from_gives refusal x → number x ≡ number_of refusal };
+
+    ghost counted: { (x : Self) (n : ℕ) → Self.converts x n → n ≡ number x };
+}
+
+impl Reason for Refusal {
+    ghost number = { number_of };
+
+    ghost named = { λ refusal x e. ap number_of e };
+
+    ghost counted = { λ x n e. e };
+}
+
+impl Reason for u8 {
+    ghost number = { λ n. n };
+
+    ghost named = { λ refusal n e. e };
+
+    ghost counted = { λ x n e. e };
+}
+
 // Turned down for this reason when a test holds.
-pub fn when(refusal: Refusal, test: bool) -> Result<(), Refusal>
-    ensures { number_in result ≡ number_of refusal when test }
+pub fn when<E: Reason>(refusal: E, test: bool) -> Result<(), E>
+    ensures number { number_by E.number result ≡ E.number refusal when test }
+    ensures given { result ≡ cond test (Err refusal) (Ok tt) }
 {
     if test {
         return Err(refusal);

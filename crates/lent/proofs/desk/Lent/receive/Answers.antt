@@ -23,7 +23,7 @@ returns-clause-placed g c =
     let b = cell_small v k g.met.C.Cell.lawful c.receiver-site.result c.pointer_of-pointer.result a_site a_pointer c.cell_in-cell.ensures in
     let below : all_below i.sites i.owners.now ≡ true = (let h = k.owners_below in rw (← v) at h) in
     let owner = byte_below_lem i.sites i.owners.now c.pointer_of-pointer.result a_pointer below in
-    let rest = decided_rest c.in_ok-m.m (get_or i.owners.now c.pointer_of-pointer.result 0) c.cell_in-cell.result (get_or i.send.now c.place_of-at.result 0) (number_in c.early-early.result) c.in_ok-e.ensures (refl {a = 0}) in
+    let rest = decided_rest c.in_ok-m.m (get_or i.owners.now c.pointer_of-pointer.result 0) c.cell_in-cell.result (get_or i.send.now c.place_of-at.result 0) (number_in c.early-early.result) c.in_ok-e.ensures.effect (refl {a = 0}) in
     let cell : c.in_ok-e.e.cell ≡ cell_after c.in_ok-m.m c.cell_in-cell.result = λ w. (rest w).cell in
     let posted : c.new.result.posted ≡ reply c.in_ok-m.m c.cell_in-cell.result (get_or i.owners.now c.pointer_of-pointer.result 0) = (λ w. (c.new.ensures w).posted) ∙ (λ w. (rest w).posted) in
     record {
@@ -46,5 +46,5 @@ returns-clause-outcome g c =
     let em : c.in_ok-m.m ≡ g.P.Slots.pool.message i.pool c.args.slot = (let h = c.in_ok-m.ensures.message in rw (← v) at h) in
     rw (← v)
     (received_by g.C.Cell.table g.P.Slots.pool (lent i.sites i.owners.now i.send.now i.receive.now i.pool) c.args.slot em c.receiver-site.ensures c.pointer_of-pointer.ensures c.place_of-at.ensures
-    (number_in c.early-early.result) c.cell_in-cell.ensures c.in_ok-e.ensures refl c.new.ensures refl
+    (number_in c.early-early.result) c.cell_in-cell.ensures c.in_ok-e.ensures.effect refl c.new.ensures refl
     (λ w. g.P.Slots.pool.post i.sites (g.P.Slots.pool.handled i.sites i.pool c.args.slot) c.args.slot (c.new.ensures w).posted))
