@@ -4,7 +4,7 @@ use mathlib.Core.Path.{◌≡◌, refl, sym, ◌∙◌}
 use mathlib.Core.Bool.{Bool, true, false, ◌&&◌, cond}
 use mathlib.Core.List.{List}
 use mathlib.Core.Logic.{⊎_elim}
-use native.Mathlib.Nat.{eq-or-lt_of_le}
+use native.Mathlib.Nat.{eq-or-lt_of_le, add-zero, add-suc}
 use native.Mathlib.Numerals.{add-one}
 use native.Mathlib.Omega.{arith}
 use lib.Dec.{leb, eqb}
@@ -93,13 +93,23 @@ module _ (least : ℕ) (book : List ℕ) where
   walked_next from i e f = rw (add-one, ← e, f)
 
   -- where the walk has left the book it stays outside
-  pub walked_out : (i n : ℕ) → i ≤ n → walked least book 0 i ≡ length book + 1 → walked least book 0 n ≡ length book + 1
+  pub walked_out : (from i n : ℕ) → i ≤ n → walked least book from i ≡ length book + 1 → walked least book from n ≡ length book + 1
   unfolding walked
-  walked_out i zero low e = let q : i ≡ 0 = omega arith in rw q at e
-  walked_out i (suc n) low e =
+  walked_out from i zero low e = let q : i ≡ 0 = omega arith in rw q at e
+  walked_out from i (suc n) low e =
       ⊎_elim (λ q. rw q at e)
-      (λ lt. sym (entry_end_beyond (walked least book 0 n) (omega (arith, walked_out i n (omega arith) e))))
+      (λ lt. sym (entry_end_beyond (walked least book from n) (omega (arith, walked_out from i n (omega arith) e))))
       (eq-or-lt_of_le low)
+
+  -- n entries and then m are n + m
+  walked_more : (n m : ℕ) → walked least book (walked least book 0 n) m ≡ walked least book 0 (n + m)
+  unfolding walked
+  walked_more n zero = rw add-zero
+  walked_more n (suc m) = rw (add-suc, walked_more n m)
+
+  -- so a walk over some and then over the rest is a walk over all
+  pub walked_rest : (n m : ℕ) {at end : ℕ} → n ≤ m → at ≡ walked least book 0 n → end ≡ walked least book at (m - n) → end ≡ walked least book 0 m
+  walked_rest n m l e f = let q : n + (m - n) ≡ m = omega arith in f ∙ rw (e, walked_more n (m - n), q)
 
   module _ (g : ℕ) (good : entries least g book ≡ true) where
     walked_inside : (p : ℕ) → p ≤ g → walked least book 0 p ≤ length book

@@ -64,7 +64,7 @@ module _ (owners book : List ℕ) (owner : ℕ) (address : List ℕ) (p : ℕ) {
   pub meets_none : length book + 1 ≡ entry_end 1 book at → (q : ℕ) → p ≤ q → meets owners book owner address q ≡ false
   unfolding meets holds
   meets_none e q low =
-      let out = walked_out 1 book (p + 1) (q + 1) (omega arith) (sym (walked_next 1 book 0 p stands e)) in
+      let out = walked_out 1 book 0 (p + 1) (q + 1) (omega arith) (sym (walked_next 1 book 0 p stands e)) in
       let last : entry_end 1 book (walked 1 book 0 q) ≡ walked 1 book 0 (q + 1) = walked_next 1 book 0 q refl refl in
       rw (lt-leb (entry_end 1 book (walked 1 book 0 q)) (length book) (omega arith), and_false (eqb (get_or owners q 0) owner))
 

@@ -46,6 +46,13 @@ module _ (s : ℕ) (owners : List ℕ) where
     pub handed_fixed : (r q : Bor (List ℕ)) → AddressPromise (Ok r) → AddressPromise (Ok q) → (r.ref_ptr.0 ≡ q.ref_ptr.0) × (r.ref_ptr.1 ≡ q.ref_ptr.1) × (r.now ≡ q.now)
     handed_fixed r q e f = (one_outcome (λ (part : Part). part.block) e f, one_outcome (λ (part : Part). part.place) e f, one_outcome (λ (part : Part). part.bytes) e f)
 
+    -- what `address_part` promises
+    abbrev pub PartPromise : Bor (List ℕ) → Type 0
+    PartPromise r = seen r ≡ address_part s owners (seen book) pointer
+
+    pub no_two_parts : {r q : Bor (List ℕ)} → PartPromise r → PartPromise q → seen r ≡ seen q
+    no_two_parts {r} {q} e f = one_answer e f
+
     -- so any two results are refused alike, or hand out the same part
     pub no_two_addresses : (r q : Result (Bor (List ℕ)) Refusal) → AddressNumberPromise r → AddressNumberPromise q → AddressPromise r → AddressPromise q
         → result_map_both seen (λ refusal. refusal) r ≡ result_map_both seen (λ refusal. refusal) q

@@ -1,5 +1,5 @@
 -- When a question of the book passes its tests, and what the order of its refusals gives where it does not.
-use Prim.Native.Nat.{ℕ, ◌+◌, ◌≤◌, ◌<◌}
+use Prim.Native.Nat.{ℕ, ◌+◌, ◌-◌, ◌≤◌, ◌<◌}
 use mathlib.Core.Path.{◌≡◌, refl, sym, ap, ◌∙◌}
 use mathlib.Core.Bool.{Bool, true, false, not}
 use mathlib.Core.List.{List}
@@ -12,8 +12,8 @@ use Rattle.std.specs.Result.{result_and}
 use Rattle.std.specs.Option.{unwrap_or, option_eq}
 use Rattle.rules.specs.declared.refusal.Refusal.{Refusal}
 use Rattle.rules.specs.Turned.{number_in}
-use lib.ListN.{length}
-use borrow.Author.Tests.{le-leb, lt-leb, ltb-true, lt-ltb, le-ltb, ne_eqb, not-false}
+use lib.ListN.{length, get_or}
+use borrow.Author.Tests.{le-leb, lt-leb, leb-false, ltb-true, lt-ltb, le-ltb, ne_eqb, not-false}
 use Rattle.model.specs.Refusals.{◌when◌, ◌or_else◌}
 use Rattle.model.specs.Questions.{some, lowest}
 use Rattle.model.specs.Tables.{sizes_good, all_below, owners_refusal}
@@ -22,7 +22,7 @@ use Rattle.book.specs.Book.{entry_at, is_book, has, twins, book_refusal, address
 use Rattle.book.specs.Walk.{walked}
 use Rattle.model.proofs.QuestionLaws.{some_lowest}
 use Rattle.book.proofs.TurnedLaws.{and_refusal}
-use Rattle.book.proofs.EntryLaws.{walked_all, walked_entry, entry_inside}
+use Rattle.book.proofs.EntryLaws.{walked_all, walked_entry, walked_out, walked_rest, entry_inside}
 
 -- a number that is not below another
 not_below : (n k : ℕ) → leb k n ≡ not (ltb n k)
@@ -33,6 +33,27 @@ pub walked_whole : (r : Option ℕ) (book : List ℕ) (g : ℕ) {whole : Bool} �
     → whole ≡ option_eq eqb r (Some (length book)) → whole ≡ is_book g book
 walked_whole (Some at) book g e f = f ∙ rw e (walked_all 1 book g)
 walked_whole None book g e f = f ∙ sym (ne_eqb (walked 1 book 0 g) (length book) (λ q. omega arith)) ∙ walked_all 1 book g
+
+-- so does a walk to an entry and on from there over the rest
+pub rest_whole : (r : Option ℕ) (book : List ℕ) (p g : ℕ) {at : ℕ} {whole : Bool} → p ≤ g → at ≡ walked 1 book 0 p
+    → unwrap_or r (length book + 1) ≡ walked 1 book at (g - p) → whole ≡ option_eq eqb r (Some (length book)) → whole ≡ is_book g book
+rest_whole r book p g l e f = walked_whole r book g (walked_rest 1 book p g l e f)
+
+-- a walk that finds no entry has left the book for good
+pub walked_short : (book : List ℕ) (i g : ℕ) → i ≤ g → length book + 1 ≡ walked 1 book 0 i → is_book g book ≡ false
+walked_short book i g l e = sym (walked_all 1 book g) ∙ ne_eqb (walked 1 book 0 g) (length book) (λ q. omega (arith, walked_out 1 book 0 i g l (sym e)))
+
+-- 18 by the test whether a walk over all entries ends where the book does
+pub walked_end : (book : List ℕ) (g : ℕ) {n p at : ℕ} → at ≡ walked 1 book 0 p → p ≡ g → n ≡ 18 when not (eqb at (length book)) → n ≡ 18 when not (is_book g book)
+walked_end book g e q f = f ∙ rw (e, q, walked_all 1 book g)
+
+-- where 18 is passed the walk stands at an entry, which ends in the book
+pub place_kept : (book : List ℕ) (p g : ℕ) {at before : ℕ} → p < g → before ≡ p → at ≡ walked 1 book 0 before → 0 ≡ 18 when not (is_book g book)
+    → (at ≡ entry_at book p) × (at + 1 + get_or book at 0 ≤ length book)
+place_kept book p g {at} l q e z =
+    let good = not-false _ (when_not 17 (not (is_book g book)) (sym z)) in
+    let there : at ≡ entry_at book p = e ∙ rw q (walked_entry 1 book g good p (omega arith)) in
+    (there, rw there (entry_inside 1 book g good p l))
 
 module _ (s : ℕ) (owners book : List ℕ) where
   -- ---- 1, 2, 18
@@ -59,6 +80,12 @@ module _ (s : ℕ) (owners book : List ℕ) where
         → number_in b ≡ 3 when leb (length owners) p → number_in (result_and a b) ≡ address_number s owners book p
     unfolding address_number
     address_told a b e f = and_refusal a b _ _ e (f ∙ rw (not_below p (length owners)))
+
+    pub address_seen : {n : ℕ} → n ≡ 3 when leb (length owners) p → n ≡ 3 when not (ltb p (length owners))
+    address_seen f = f ∙ rw (not_below p (length owners))
+
+    pub address_named : 0 ≡ 3 when leb (length owners) p → p < length owners
+    address_named e = leb-false (length owners) p (when_not 2 (leb (length owners) p) (sym e))
 
     pub address_passes : address_number s owners book p ≡ 0 → (book_refusal s owners book ≡ 0) × (p < length owners)
     unfolding address_number

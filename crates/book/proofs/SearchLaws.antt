@@ -6,7 +6,7 @@ use native.Mathlib.Omega.{arith}
 use lib.Dec.{leb}
 use lib.ListN.{length}
 use borrow.Author.Tests.{leb-false}
-use Rattle.std.specs.Prelude.{false, Option, None, Some, IfSome, Result, Ok, Err}
+use Rattle.std.specs.Prelude.{false, not, Option, None, Some, IfSome, Result, Ok, Err}
 use Rattle.std.specs.Option.{unwrap_or, ok_or}
 use Rattle.model.specs.Refusals.{◌when◌, ◌or_else◌}
 use Rattle.model.specs.Questions.{lowest}
@@ -17,12 +17,20 @@ use Rattle.rules.specs.declared.answer.Accepted.{Accepted}
 use Rattle.model.specs.declared.Posted.TheVariants.{Nothing}
 use Rattle.model.specs.Answers.{accepted}
 use Rattle.rules.specs.Turned.{number_in, told}
-use Rattle.book.specs.Book.{has, book_refusal, search_number, search_answer}
+use Rattle.model.specs.Tables.{owners_refusal}
+use Rattle.book.specs.Book.{is_book, has, book_refusal, search_number, search_answer}
 use Rattle.book.specs.Walk.{meets}
+use Rattle.book.proofs.TurnedLaws.{after_passed}
 use Rattle.book.proofs.OwnerLaws.{owners_few}
 use Rattle.book.proofs.RefusalLaws.{book_passes, search_nowhere, search_found}
 use Rattle.book.proofs.AnswerLaws.{told_refused, told_accepted}
 use Rattle.book.proofs.FindLaws.{lowest_meets}
+
+-- 1, 2, 18 and 3 are passed, one by one
+pub all_passed : (s : ℕ) (owners book : List ℕ) (owner : ℕ) → 0 ≡ owners_refusal s owners → 0 ≡ 18 when not (is_book (length owners) book) → 0 ≡ 3 when leb s owner
+    → 0 ≡ book_refusal s owners book or_else 3 when leb s owner
+unfolding book_refusal
+all_passed s owners book owner a b c = after_passed _ _ (after_passed _ _ a b) c
 
 module _ (s : ℕ) (owners book : List ℕ) (owner : ℕ) (wanted : List ℕ) (passed : 0 ≡ book_refusal s owners book or_else 3 when leb s owner) where
   both : (book_refusal s owners book ≡ 0) × (leb s owner ≡ false)

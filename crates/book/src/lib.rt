@@ -10,8 +10,8 @@ ghost use Rattle.rules.specs.Turned.{number_in, told};
 ghost use Rattle.book.specs.Part.{seen};
 ghost use Rattle.book.specs.Book.{entry_at, book_refusal, address_number, address_part, check_answer, search_answer};
 
-use crate::find::{has_twins, lowest};
-use crate::walk::{SHORTEST, walk};
+use crate::find::{has_twins, listed};
+use crate::walk::{SHORTEST, place_in, walk};
 use model::Posted;
 use rules::answer::Accepted;
 use rules::refusal::{Refusal, when};
@@ -27,23 +27,19 @@ fn book_refusal(s: u8, owners: &[u8], book: &[u8]) -> Result<(), Refusal>
     when(Refusal::BadBook, !whole)
 }
 
-#[tactic(auto, using(crate::proofs::RefusalLaws::address_told))]
-// The question for an address: 1, 2, 18, then 3.
-fn address_refusal(s: u8, owners: &[u8], book: &[u8], pointer: u8) -> Result<(), Refusal>
-    ensures { number_in result ≡ address_number s owners.now book.now pointer }
-{
-    book_refusal(s, owners, book).and(when(Refusal::BadName, owners.len() <= (pointer as usize)))
-}
-
-#[tactic(auto, using(crate::proofs::RefusalLaws::place_found, crate::proofs::AddressLaws::place_inside))]
-// Where the entry of a pointer starts; in a book that has passed 18 the walk finds it.
+#[tactic(auto, using(crate::proofs::TurnedLaws::refusing, crate::proofs::RefusalLaws::address_seen, crate::proofs::RefusalLaws::address_named), unfolding(crate::specs::Book::address_number, crate::specs::Book::book_refusal))]
+// The question for an address: 1, 2, 18, then 3; and where the entry of a pointer starts.
 pub fn entry_place(s: u8, owners: &[u8], book: &[u8], pointer: u8) -> Result<usize, Refusal>
     ensures number { number_in result ≡ address_number s owners.now book.now pointer }
     ensures place { IfOk result (λ at. at ≡ entry_at book.now pointer) }
     ensures inside { IfOk result (λ at. at + 1 + slice_index book.now at ≤ length book.now) }
 {
-    address_refusal(s, owners, book, pointer)?;
-    walk(SHORTEST, book, pointer as usize).ok_or(Refusal::BadBook)
+    owners_refusal(s, owners)?;
+    let g = owners.len();
+    let p = pointer as usize;
+    let at = place_in(book, p, g)?;
+    when(Refusal::BadName, g <= p)?;
+    Ok(at)
 }
 
 #[tactic(auto, using(crate::proofs::AddressLaws::part_given_lem))]
@@ -58,6 +54,17 @@ pub fn address<'a>(s: u8, owners: &[u8], book: &'a [u8], pointer: u8) -> Result<
     Ok(&book[start..end])
 }
 
+#[tactic(auto, using(crate::proofs::AddressLaws::part_refused))]
+// That part as a host sees it; after a refusal it is the empty part at the book's start, as no address is.
+pub fn address_part<'a>(s: u8, owners: &[u8], book: &'a [u8], pointer: u8) -> &'a [u8]
+    ensures { seen result ≡ address_part s owners.now (seen book.entry) pointer }
+{
+    match address(s, owners, book, pointer) {
+        Ok(part) => part,
+        Err(_) => &book[0..0],
+    }
+}
+
 #[tactic(auto, using(crate::proofs::TurnedLaws::refusing, crate::proofs::RefusalLaws::book_passed, crate::proofs::AnswerLaws::telling), unfolding(crate::specs::Book::check_number, crate::specs::Book::check_answer))]
 // A check of the book.
 pub fn check(s: u8, owners: &[u8], book: &[u8]) -> Result<Accepted, Refusal>
@@ -68,7 +75,7 @@ pub fn check(s: u8, owners: &[u8], book: &[u8]) -> Result<Accepted, Refusal>
     Ok(Accepted::new(0, Posted::Nothing))
 }
 
-#[tactic(auto, using(crate::proofs::TurnedLaws::refusing, crate::proofs::AnswerLaws::telling), unfolding(crate::specs::Book::search_number, crate::specs::Book::search_answer))]
+#[tactic(auto, using(crate::proofs::TurnedLaws::refusing, crate::proofs::AnswerLaws::telling), unfolding(crate::specs::Book::book_refusal, crate::specs::Book::search_number, crate::specs::Book::search_answer))]
 // A search by owner and whole address.
 pub fn search(
     s: u8,
@@ -79,7 +86,9 @@ pub fn search(
 ) -> Result<Accepted, Refusal>
     ensures { told result ≡ search_answer s owners.now book.now owner wanted.now }
 {
-    book_refusal(s, owners, book).and(when(Refusal::BadName, s <= owner))?;
-    let p = lowest(owners, book, owner, wanted).ok_or(Refusal::NotListed)?;
+    owners_refusal(s, owners)?;
+    let found = listed(owners, book, owner, wanted)?;
+    when(Refusal::BadName, s <= owner)?;
+    let p = found.ok_or(Refusal::NotListed)?;
     Ok(Accepted::new(p as u16, Posted::Nothing))
 }

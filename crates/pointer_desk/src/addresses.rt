@@ -5,7 +5,7 @@ ghost use Rattle.book.specs.Book.{address_number, check_answer, search_answer};
 ghost use Rattle.pointer_desk.specs.Boundary.{flat_answer, part_given};
 
 use crate::answer::DeskAnswer;
-use book::{address, check, entry_place, search};
+use book::{address_part, check, entry_place, search};
 use rules::refusal::Refusal;
 
 // A number, and a part of the lent book: where it starts, and its length.
@@ -23,12 +23,12 @@ fn part(sites: u8, owners: &[u8], book: &[u8], pointer: u8) -> Result<DeskPart, 
     ensures number { number_in result ≡ address_number sites owners.now book.now pointer }
     ensures part { IfOk result (λ part. part ≡ part_given sites owners.now book.now pointer) }
 {
-    let length = address(sites, owners, book, pointer)?.len();
     let entry = entry_place(sites, owners, book, pointer)?;
+    let part = address_part(sites, owners, book, pointer);
     Ok(DeskPart {
         number: 0,
         at: entry + 1,
-        length,
+        length: part.len(),
     })
 }
 

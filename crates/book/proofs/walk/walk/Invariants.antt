@@ -1,7 +1,0 @@
--- `walk`: past as many entries as turns.
-use Rattle.std.proofs.Common.{◌≡◌, ◌≤◌, length}
-use Rattle.book.specs.Walk.{walked}
-use Rattle.book.proofs.walk.walk.Given as goal
-
-abbrev pub invariant-loop : goal.invariant-loop
-invariant-loop l = (l.at ≡ walked l.least l.book 0 l.counter) × (l.at ≤ length l.book)
