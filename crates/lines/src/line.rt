@@ -1,6 +1,7 @@
 // A line as a call (Document 01, Lines).
 ghost use Rattle.std.specs.Prelude.{◌≡◌};
-ghost use Rattle.model.specs.Lines.{read_bytes, read_line};
+ghost use Rattle.model.specs.Lines.{read_bytes, read_line, refusal_in};
+ghost use Rattle.rules.specs.Turned.{number_in};
 ghost use Rattle.lines.specs.Said.{read_of};
 
 use crate::code::Code;
@@ -37,7 +38,8 @@ pub fn read_bytes(code: u8, a: u8, b: u8, c: u8) -> Result<Call, Refusal>
 #[tactic(auto, unfolding(model::specs::Lines::read_line, model::specs::Lines::line_refusal))]
 // What a line says: eight characters, then digits, then the rest.
 pub fn read_line(line: &[u8]) -> Result<Call, Refusal>
-    ensures { read_of result ≡ read_line line.now }
+    ensures read { read_of result ≡ read_line line.now }
+    ensures number { number_in result ≡ refusal_in (read_line line.now) }
 {
     if line.len() != 8 {
         return Err(Refusal::BadLine);

@@ -1,5 +1,6 @@
 -- Laws for the proofs of the functions.
 pub mod SheetLaws
+pub mod BoundaryLaws
 pub mod PartLaws
 -- Theorems for a reader.
 pub mod Handed

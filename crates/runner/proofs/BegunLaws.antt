@@ -1,19 +1,20 @@
 -- From the opening line on: it stops after a refused opening, or goes on with the lines after it.
-use Rattle.std.proofs.Common.{◌≡◌, ℕ, zero, suc, ◌+◌, ◌*◌, ◌≤◌, List, [], ◌∷◌, ◌++◌, length, Result, Ok, Err, refl, sym, ap, ◌∙◌, arith}
+use Rattle.std.proofs.Common.{◌≡◌, ℕ, zero, suc, ◌+◌, ◌*◌, ◌<◌, ◌≤◌, List, [], ◌∷◌, ◌++◌, length, Result, Ok, Err, refl, sym, ap, ◌∙◌, arith}
 use mathlib.Core.List.{append-nil}
 use lib.ListN.{length-append}
 use lib.Seq.{sets}
+use borrow.Author.Tests.{lt-ltb, le-ltb}
 use Rattle.model.specs.Answers.{Answer, refused, Outcome}
 use Rattle.model.specs.Tables.{Desk}
 use Rattle.model.specs.Lines.{read_line, lines_of}
-use Rattle.model.specs.Transcript.{answer_line, obeyed, answers, begun}
+use Rattle.model.specs.Transcript.{answer_line, obeyed, answers, begun, transcript}
 use Rattle.model.proofs.EachLineOnce.{each_line_once}
 use Rattle.rules.specs.declared.refusal.Refusal.{Refusal}
 use Rattle.rules.specs.declared.answer.Accepted.{Accepted}
 use Rattle.rules.specs.Turned.{number_of, told}
 use Rattle.rules.proofs.TurnedLaws.{number_given}
 use Rattle.lines.proofs.StoreLaws.{sets_then, length_answer_line}
-use Rattle.runner.specs.Run.{written, room}
+use Rattle.runner.specs.Run.{Written, written, room, run}
 
 -- an answer line and then the rest are one text
 pub line_then : (text rest : List ℕ) (at : ℕ) (a : Answer) → sets (sets text at (answer_line a)) (at + 17) rest ≡ sets text at (answer_line a ++ rest)
@@ -57,3 +58,9 @@ module _ {o : Outcome Desk} (r : Result Accepted Refusal) (d : Desk) (lines : Li
 -- an output that is long enough for every input has room for the answer lines
 pub lines_fit : (text line : List ℕ) (rest : List (List ℕ)) → lines_of text ≡ line ∷ rest → length text ≤ 8192 → 17 + length rest * 17 ≤ room
 lines_fit text line rest e h = let n : length (lines_of text) ≡ length rest + 1 = rw e (omega arith) in omega (arith, (each_line_once text).few)
+
+-- ---- a whole run
+module _ (input output : List ℕ) where
+  pub too_long : {w : Written} → room ≤ length output → 8192 < length input → w ≡ written output (answer_line (refused 17)) → w ≡ run input output
+  unfolding run transcript
+  too_long h l e = simp (le-ltb (length output) room h, lt-ltb 8192 (length input) l) e

@@ -73,6 +73,9 @@ few_cells line s slots o =
     let z = (shaped s g (s * g) (s * g) (slots * 5) o.shape).sizes in
     mul-le-mul z.few_sites z.few_pointers
 
+pub byte_cells_lem : {s g : ℕ} → s < 256 → g ≤ 256 → s * g ≤ 65536
+byte_cells_lem {s} {g} a b = let c : s ≤ 256 = omega arith in mul-le-mul c b
+
 -- ---- what is read of it
 opens_by : (t u : Bool) (x y : ℕ) (a : Asked) → cond t (cond u (Ok (record { s = x; slots = y })) (Err BadShape)) (Err BadLine) ≡ Ok a
     → (t ≡ true) × (u ≡ true) × (a.s ≡ x) × (a.slots ≡ y)

@@ -94,8 +94,15 @@ cut_good room x =
     let k : x % 4 ≡ x % 1099511627776 % 4 = omega arith in
     ap (λ (k : ℕ). clear slot_mask (x % 1099511627776) && clear slot_mask (x % 1099511627776 + get_or room k 0)) k
 
+-- the test of five bytes by themselves, in the form of the code
+pub word_good_lem : (s g from to third p : ℕ) → from < 256 → to < 256 → third < 256 → p < 256 → (kind : ℕ) → kind < 256 → s ≤ 64 → g ≤ 256
+    → word_good five (rooms s g) (packed kind from to third p) ≡ slot_good s g kind from to third p
+word_good_lem s g from to third p f t h q kind k ls lg =
+    let whole : packed kind from to third p % 1099511627776 ≡ packed kind from to third p = omega arith in
+    cut_good (rooms s g) (packed kind from to third p) ∙ ap (packed_good (rooms s g)) whole ∙ packed_good_lem s g from to third p f t h q kind k ls lg
+
 module _ (pool : List ℕ) (byte : (j : ℕ) → get_or pool j 0 < 256) where
-  slot_cut : (i : ℕ) → eight_at pool (i * 5) % 1099511627776 ≡ at_slot 5 packed pool i
+  pub slot_cut : (i : ℕ) → eight_at pool (i * 5) % 1099511627776 ≡ at_slot 5 packed pool i
   slot_cut i = eight_cut _ _ _ _ _ _ _ _ (byte (i * 5)) (byte (i * 5 + 1)) (byte (i * 5 + 2)) (byte (i * 5 + 3)) (byte (i * 5 + 4))
 
   five_good : (room : List ℕ) (i : ℕ) → good_at five room pool i ≡ packed_good room (at_slot 5 packed pool i)

@@ -7,6 +7,7 @@ use native.Mathlib.Omega.{arith}
 use lib.Bits.{bit_or}
 use lib.Dec.{eqb}
 use lib.ListN.{get_or}
+use mir.Val.{bool_byte}
 use borrow.Author.Tests.{ne_eqb}
 use Rattle.std.specs.Prelude.{Option, Some, None}
 use Rattle.model.specs.Questions.{every, how_many}
@@ -27,6 +28,11 @@ apart_more mask numbers sums x y =
     ∙ ap₂ (λ (a b : Bool). a && b) (clear_or mask numbers x) (clear_or mask sums y)
     ∙ and_pairs (clear mask numbers) (clear mask x) (clear mask sums) (clear mask y)
     ∙ ap (λ (b : Bool). b && (clear mask x && clear mask y)) (sym (clear_or mask numbers sums))
+
+-- a test as a byte
+pub byte_at_most_1 : (b : Bool) → bool_byte b ≤ 1
+byte_at_most_1 true = omega arith
+byte_at_most_1 false = omega arith
 
 -- what a kind adds to the count
 pub one_by_kind : (k : ℕ) → get_or ones k 0 ≡ cond (eqb k 0) 1 0

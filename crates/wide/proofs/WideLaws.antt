@@ -4,7 +4,7 @@ use mathlib.Core.Path.{◌≡◌, refl, sym, ap, ap₂, ◌∙◌}
 use mathlib.Core.Bool.{Bool, true, ◌&&◌, cond}
 use mathlib.Core.List.{List}
 use native.Mathlib.Omega.{arith}
-use lib.Bits.{bit_and, and_block, and_high, and_mask}
+use lib.Bits.{bit_and, and_block, and_high, and_mask, and_le_r}
 use lib.Dec.{eqb}
 use lib.ListN.{get_or}
 use borrow.Author.Tests.{eqb-true, ne_eqb, lt-leb}
@@ -21,6 +21,16 @@ use Rattle.wide.proofs.KeepLaws.{full_keep, same_kept, kind_kept}
 use Rattle.wide.specs.Wide.{keeps, wide_mask, wide_rooms, looked, seven}
 
 -- ---- sums within 64 bits
+keeps_low : (j : ℕ) → get_or keeps j 0 < 72057594037927936
+keeps_low zero = omega arith
+keeps_low (suc zero) = omega arith
+keeps_low (suc (suc zero)) = omega arith
+keeps_low (suc (suc (suc zero))) = omega arith
+keeps_low (suc (suc (suc (suc j)))) = omega arith
+
+pub kept_low : (keep : List ℕ) (x j : ℕ) → keep ≡ keeps → bit_and x (get_or keep j 0) < 72057594037927936
+kept_low keep x j e = rw e (omega (arith, and_le_r x (get_or keeps j 0), keeps_low j))
+
 pub rooms_wide : (s g : ℕ) → Low (wide_rooms s g)
 rooms_wide s g zero = omega arith
 rooms_wide s g (suc zero) = omega arith
@@ -32,7 +42,7 @@ rooms_wide s g (suc (suc (suc (suc j)))) = omega arith
 abbrev tested : ℕ → ℕ → Bool
 tested y room = clear wide_mask y && clear wide_mask (y + room)
 
-abbrev wide_good : List ℕ → ℕ → Bool
+abbrev pub wide_good : List ℕ → ℕ → Bool
 wide_good room x = word_good seven room x
 
 -- ---- the byte above seven does not matter
@@ -179,12 +189,13 @@ module _ (pool : List ℕ) (byte : (j : ℕ) → get_or pool j 0 < 256) where
         sym (same_kept (n % 4) n (omega arith) ∙ ap₂ (λ (y j : ℕ). bit_and y (get_or keeps j 0)) cut (k ∙ ap (λ (y : ℕ). y % 4) cut)),
       )
 
-  seven_good : (room : List ℕ) (i : ℕ) → good_at seven room pool i ≡ wide_good room (seven_at i)
-  seven_good room i = seven_same room (number_at seven pool i) ∙ ap (wide_good room) (cut_at i)
+  -- what is read with the byte that follows
+  pub seven_good_lem : (room : List ℕ) (i : ℕ) → good_at seven room pool i ≡ wide_good room (seven_at i)
+  seven_good_lem room i = seven_same room (number_at seven pool i) ∙ ap (wide_good room) (cut_at i)
 
   slot_good_lem : (s g i : ℕ) → s ≤ 64 → g ≤ 256 → good_at seven (wide_rooms s g) pool i ≡ (at_slot 7 (slot_good s g) pool i && number_good pool i)
   slot_good_lem s g i ls lg =
-      seven_good (wide_rooms s g) i
+      seven_good_lem (wide_rooms s g) i
       ∙ wide_good_lem s g _ _ _ _ _ _ (byte (i * 7 + 1)) (byte (i * 7 + 2)) (byte (i * 7 + 3)) (byte (i * 7 + 4)) (byte (i * 7 + 5)) (byte (i * 7 + 6)) _ (byte (i * 7)) ls lg
 
   -- every slot and every number is good where every slot as one number is
