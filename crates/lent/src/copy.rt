@@ -1,7 +1,8 @@
 // Make copy (Document 01, The calls).
-ghost use Rattle.std.specs.Prelude.{◌≡◌, IfOk};
+ghost use Rattle.std.specs.Prelude.{◌≡◌, ◌+◌, IfOk, length};
 ghost use Rattle.model.specs.Parts.{desk_of};
-ghost use Rattle.model.specs.Calls.{copy_number, copied};
+ghost use Rattle.model.specs.Tables.{place};
+ghost use Rattle.model.specs.Calls.{copy_number, copied, lowest_empty};
 ghost use Rattle.rules.specs.Turned.{number_in};
 ghost use Rattle.lent.specs.Desks.{Placed, counter_written};
 
@@ -20,6 +21,8 @@ impl<'a, C: Cell, P: Slots> Lent<'a, C, P> {
     pub fn copy(&self, from: u8, to: u8, pointer: u8) -> Result<Change, Refusal>
         ensures number { number_in result ≡ copy_number (desk_of C.table P.pool) self.now from to pointer }
         ensures placed { IfOk result (Placed C.table P.pool self.now) }
+        ensures named { IfOk result (λ c. (c.site ≡ from) × (c.pointer ≡ pointer) × (c.at ≡ place (length self.now.owners) from pointer)) }
+        ensures values { IfOk result (λ c. (c.counter ≡ (desk_of C.table P.pool).counter self.now from pointer + 1) × (c.cell ≡ (desk_of C.table P.pool).cell self.now from pointer) × (c.slot ≡ lowest_empty (desk_of C.table P.pool) self.now)) }
         ensures outcome { IfOk result (λ c. counter_written C.table P.pool self.now c ≡ copied (desk_of C.table P.pool) self.now from to pointer) }
     {
         let p = pointer as usize;

@@ -1,7 +1,8 @@
 // Delete (Document 01, The calls).
-ghost use Rattle.std.specs.Prelude.{◌≡◌, IfOk};
+ghost use Rattle.std.specs.Prelude.{◌≡◌, IfOk, length};
 ghost use Rattle.model.specs.Parts.{desk_of};
-ghost use Rattle.model.specs.Calls.{delete_number, deleted};
+ghost use Rattle.model.specs.Tables.{place};
+ghost use Rattle.model.specs.Calls.{delete_number, deleted, lowest_empty};
 ghost use Rattle.rules.specs.Turned.{number_in};
 ghost use Rattle.lent.specs.Desks.{Placed, cell_written};
 
@@ -20,6 +21,8 @@ impl<'a, C: Cell, P: Slots> Lent<'a, C, P> {
     pub fn delete(&self, site: u8, pointer: u8) -> Result<Change, Refusal>
         ensures number { number_in result ≡ delete_number (desk_of C.table P.pool) self.now site pointer }
         ensures placed { IfOk result (Placed C.table P.pool self.now) }
+        ensures named { IfOk result (λ c. (c.site ≡ site) × (c.pointer ≡ pointer) × (c.at ≡ place (length self.now.owners) site pointer)) }
+        ensures values { IfOk result (λ c. (c.counter ≡ (desk_of C.table P.pool).counter self.now site pointer) × (c.cell ≡ 0) × (c.slot ≡ lowest_empty (desk_of C.table P.pool) self.now)) }
         ensures outcome { IfOk result (λ c. cell_written C.table P.pool self.now c ≡ deleted (desk_of C.table P.pool) self.now site pointer) }
     {
         let p = pointer as usize;

@@ -1,9 +1,10 @@
 // Receive (Document 01, The calls).
 ghost use Rattle.std.specs.Prelude.{◌≡◌, ◌<◌, IfOk, false, ltb, length};
 ghost use Rattle.model.specs.Parts.{desk_of};
-ghost use Rattle.model.specs.Calls.{receive_number, received};
+ghost use Rattle.model.specs.Tables.{place};
+ghost use Rattle.model.specs.Calls.{receive_number, received, counter_there, cell_there};
 ghost use Rattle.rules.specs.Turned.{number_in};
-ghost use Rattle.model.specs.Messages.{receiver as receiver_of, pointer_of as named_by};
+ghost use Rattle.model.specs.Messages.{receiver as receiver_of, pointer_of as named_by, counter_after, cell_after};
 ghost use Rattle.model.specs.Laws.{Inside};
 ghost use Rattle.model.proofs.ReceiveLaws.{slot_number};
 ghost use Rattle.lent.specs.Desks.{Passed, Placed, all_written};
@@ -42,6 +43,8 @@ impl<'a, C: Cell, P: Slots> Lent<'a, C, P> {
         ensures number { number_in result ≡ receive_number (desk_of C.table P.pool) self.now slot }
         ensures placed { IfOk result (Placed C.table P.pool self.now) }
         ensures handled { IfOk result (λ c. Inside self.now.S (length self.now.owners) (P.pool.message self.now.pool c.slot)) }
+        ensures named { IfOk result (λ c. (c.site ≡ receiver_of (P.pool.message self.now.pool slot)) × (c.pointer ≡ named_by (P.pool.message self.now.pool slot)) × (c.at ≡ place (length self.now.owners) (receiver_of (P.pool.message self.now.pool slot)) (named_by (P.pool.message self.now.pool slot)))) }
+        ensures values { IfOk result (λ c. (c.counter ≡ counter_after (P.pool.message self.now.pool slot) (counter_there (desk_of C.table P.pool) self.now slot)) × (c.cell ≡ cell_after (P.pool.message self.now.pool slot) (cell_there (desk_of C.table P.pool) self.now slot)) × (c.slot ≡ slot)) }
         ensures outcome { IfOk result (λ c. all_written C.table P.pool self.now c ≡ received (desk_of C.table P.pool) self.now slot) }
     {
         let i = slot as usize;

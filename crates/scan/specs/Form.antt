@@ -3,7 +3,7 @@ use Rattle.std.specs.Prelude.{◌≡◌, ℕ, ◌+◌, ◌*◌, ◌%◌, ◌<◌
 use Rattle.model.specs.Questions.{every, how_many}
 use Rattle.model.specs.Tables.{slots_of, empty_at, all_slots_good}
 use Rattle.std.specs.Int.Bits.{bit_or}
-use Rattle.scan.specs.Word.{eight_at, clear, slot_mask, word_empty}
+use Rattle.scan.specs.Word.{eight_at, clear, slot_mask, rooms, word_empty}
 use Rattle.scan.specs.declared.form.Seen.{Seen}
 
 pub record Form : Type 0 where
@@ -13,6 +13,11 @@ pub record Form : Type 0 where
   pub mask : ℕ
   -- what is looked at of a slot as one number
   pub looked : ℕ → ℕ
+  -- what is kept whole of it, where another slot follows and where the slot is read alone
+  pub within : ℕ → ℕ
+  pub alone : ℕ → ℕ
+  -- for S and G, the rooms by kind
+  pub room : ℕ → ℕ → List ℕ
   -- for S and G, whether all slots of a pool are good
   pub all_good : ℕ → ℕ → List ℕ → Bool
 
@@ -44,6 +49,14 @@ abbrev pub Tells : Form → List ℕ → List ℕ → ℕ → Seen → Type 0
 Tells f room pool n seen =
     (clear f.mask (bit_or seen.numbers seen.sums) ≡ every n (good_at f room pool)) × (seen.empties ≡ how_many n (counted_at f pool))
 
--- the form of five bytes: all of them are looked at
+-- the form of five bytes: all of them are looked at, and nothing else is kept
 abbrev pub five : Form
-five = record { width = 5; mask = slot_mask; looked = λ x. x % 1099511627776; all_good = all_slots_good 5 }
+five = record {
+  width = 5;
+  mask = slot_mask;
+  looked = λ x. x % 1099511627776;
+  within = λ x. x % 1099511627776;
+  alone = λ x. x % 1099511627776;
+  room = rooms;
+  all_good = all_slots_good 5;
+}

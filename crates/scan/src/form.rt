@@ -25,6 +25,7 @@ pub trait SlotForm {
     // By kind, what may be added before a field above its limit reaches the field's top bit.
     fn rooms_of(s: u8, g: usize) -> [u64; 4]
         requires { (s ≤ 64) × (g ≤ 256) }
+        ensures room { result ≡ form.room s g }
         ensures low { Low result }
         ensures sound { Sound form s g result };
 
@@ -35,12 +36,14 @@ pub trait SlotForm {
     // A slot's number, where another slot follows it: eight bytes are read.
     fn within(pool: &[u8], slot: usize) -> Number
         requires { slot + 1 < slots_of form.width pool.now }
-        ensures { (result.whole % 4 ≡ number_at form pool.now slot % 4) × (result.looked ≡ form.looked (number_at form pool.now slot)) };
+        ensures whole { result.whole ≡ form.within (number_at form pool.now slot) }
+        ensures shown { (result.whole % 4 ≡ number_at form pool.now slot % 4) × (result.looked ≡ form.looked (number_at form pool.now slot)) };
 
     // A slot's number, wherever it stands.
     fn alone(pool: &[u8], slot: usize) -> Number
         requires { slot < slots_of form.width pool.now }
-        ensures { (result.whole % 4 ≡ number_at form pool.now slot % 4) × (result.looked ≡ form.looked (number_at form pool.now slot)) };
+        ensures whole { result.whole ≡ form.alone (number_at form pool.now slot) }
+        ensures shown { (result.whole % 4 ≡ number_at form pool.now slot % 4) × (result.looked ≡ form.looked (number_at form pool.now slot)) };
 }
 
 // What the slots so far show: their numbers, and their numbers with the room of their kinds, kept apart, which takes fewer steps; and how many are empty where all are good.

@@ -176,7 +176,7 @@ module _ (pool : List ℕ) (byte : (j : ℕ) → get_or pool j 0 < 256) where
       eight (get_or pool (i * 7) 0) (get_or pool (i * 7 + 1) 0) (get_or pool (i * 7 + 2) 0) (get_or pool (i * 7 + 3) 0)
       (get_or pool (i * 7 + 4) 0) (get_or pool (i * 7 + 5) 0) (get_or pool (i * 7 + 6) 0) 0
 
-  cut_at : (i : ℕ) → number_at seven pool i % 72057594037927936 ≡ seven_at i
+  pub cut_at : (i : ℕ) → number_at seven pool i % 72057594037927936 ≡ seven_at i
   cut_at i = seven_cut _ _ _ _ _ _ _ _ (byte (i * 7)) (byte (i * 7 + 1)) (byte (i * 7 + 2)) (byte (i * 7 + 3)) (byte (i * 7 + 4)) (byte (i * 7 + 5)) (byte (i * 7 + 6))
 
   -- so they are looked at alone, and hold the kind

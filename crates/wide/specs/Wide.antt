@@ -22,6 +22,14 @@ wide_rooms s g = (get_or (rooms s g) 0 0 + 65534 * 1099511627776) ∷ get_or (ro
 abbrev pub looked : ℕ → ℕ
 looked x = bit_and x (get_or keeps (x % 4) 0)
 
--- the form of seven bytes: the byte that follows comes in above, and is not looked at
+-- the form of seven bytes: the byte that follows comes in above, and is not looked at; alone a slot has none
 abbrev pub seven : Form
-seven = record { width = 7; mask = wide_mask; looked = looked; all_good = λ s g pool. all_slots_good 7 s g pool && all_numbers_good pool }
+seven = record {
+  width = 7;
+  mask = wide_mask;
+  looked = looked;
+  within = λ x. x;
+  alone = λ x. x % 72057594037927936;
+  room = wide_rooms;
+  all_good = λ s g pool. all_slots_good 7 s g pool && all_numbers_good pool;
+}

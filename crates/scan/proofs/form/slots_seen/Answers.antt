@@ -21,4 +21,4 @@ returns g c =
     let a = c.args in
     let q : a.last % 8 + a.last / 8 * 8 ≡ a.last = omega arith in
     let told = rw q at c.with_eights-grouped.ensures in
-    rw (← c.requires) (tells_more f a.kinds.now.room a.pool.now a.last (c.alone-end.result.whole % 4) c.alone-end.result.looked c.with_eights-grouped.result c.with_number.result told c.alone-end.ensures c.with_number.ensures)
+    rw (← c.requires) (tells_more f a.kinds.now.room a.pool.now a.last (c.alone-end.result.whole % 4) c.alone-end.result.looked c.with_eights-grouped.result c.with_number.result told c.alone-end.ensures.shown c.with_number.ensures)

@@ -13,4 +13,4 @@ pub returns : goal.returns
 returns g c =
     let a = c.args in
     let x = c.within.result in
-    tells_more g.F.SlotForm.form a.kinds.now.room a.pool.now a.slot (x.whole % 4) x.looked a.seen c.with_number.result c.requires.1 c.within.ensures c.with_number.ensures
+    tells_more g.F.SlotForm.form a.kinds.now.room a.pool.now a.slot (x.whole % 4) x.looked a.seen c.with_number.result c.requires.1 c.within.ensures.shown c.with_number.ensures
