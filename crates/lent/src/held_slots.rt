@@ -77,6 +77,7 @@ impl<'a> Slots for HeldSlots<'a> {
         count::<5>(self.bytes, site, owner, p)
     }
 
+    // Inlined as slots::entries is.
     #[inline(always)]
     fn entries(&self, p: u8) -> [[u32; 64]; 3] {
         entries::<5>(self.bytes, p)

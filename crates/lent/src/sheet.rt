@@ -12,7 +12,7 @@ use rules::refusal::Refusal;
 
 impl<'a, C: Cell, P: Slots> Lent<'a, C, P> {
     #[tactic(auto, using(rules::proofs::TurnedLaws::err_first), unfolding(model::specs::Survey::sheet, model::specs::Survey::sheet_number))]
-    // Three rows, one for each message kind, of 64 columns, one for each site; 1, 2, 3.
+    // Three rows, one for each message kind, of 64 columns, one for each site; 1, 2, 3. Inlined as slots::entries is.
     #[inline(always)]
     pub fn sheet(&self, pointer: u8) -> Result<[[u32; 64]; 3], Refusal>
         ensures number { number_in result ≡ sheet_number (desk_of C.table P.pool) self.now pointer }

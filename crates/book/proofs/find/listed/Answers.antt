@@ -4,7 +4,7 @@ use Rattle.std.proofs.lemmas.Grind.{common_steps}
 use Rattle.book.specs.Walk.{walked}
 use Rattle.book.proofs.EntryLaws.{walked_next}
 use Rattle.book.proofs.FindLaws.{first_lowest, none_lowest, meets_not_owner, meets_same}
-use Rattle.book.proofs.RefusalLaws.{rest_whole, walked_short, walked_end}
+use Rattle.book.proofs.RefusalLaws.{rest_end, walked_short, walked_end}
 use Rattle.book.proofs.find.listed.Goals as goal
 use Rattle.book.proofs.find.listed.Goals.{else-own-owner-via-then-own-owner+else-same_bytes, else-own-owner-via-else-own-owner}
 
@@ -20,19 +20,15 @@ returns-in_default-clause-number c =
 pub returns-in_err-when-clause-number : goal.returns-in_err-when-clause-number
 returns-in_err-when-clause-number c =
     let l = c.loop-p in
-    let whole =
-    rest_whole c.walk_from.result c.args.book.now (l.p + 1) (length c.args.owners.now) (omega arith)
-    (walked_next 1 c.args.book.now 0 l.p l.invariant.0 c.in-Some.ensures.place) c.walk_from.ensures.place c.eq-whole.ensures in
-    let e = rw whole at c.in_err-when.ensures.number in
+    let past = walked_next 1 c.args.book.now 0 l.p l.invariant.0 c.in-Some.ensures.place in
+    let e = rest_end c.walk_from.result _ (l.p + 1) (length c.args.owners.now) (omega arith) past c.walk_from.ensures.place c.eq-whole.ensures c.in_err-when.ensures.number in
     grind (arith, common_steps)
 
 pub returns-then-same_bytes-clause-number : goal.returns-then-same_bytes-clause-number
 returns-then-same_bytes-clause-number c =
     let l = c.loop-p in
-    let whole =
-    rest_whole c.walk_from.result c.args.book.now (l.p + 1) (length c.args.owners.now) (omega arith)
-    (walked_next 1 c.args.book.now 0 l.p l.invariant.0 c.in-Some.ensures.place) c.walk_from.ensures.place c.eq-whole.ensures in
-    rw whole at c.in_ok-when.ensures.number
+    let past = walked_next 1 c.args.book.now 0 l.p l.invariant.0 c.in-Some.ensures.place in
+    rest_end c.walk_from.result _ (l.p + 1) (length c.args.owners.now) (omega arith) past c.walk_from.ensures.place c.eq-whole.ensures c.in_ok-when.ensures.number
 
 pub returns-then-same_bytes-clause-pointer : goal.returns-then-same_bytes-clause-pointer
 returns-then-same_bytes-clause-pointer c =
