@@ -1,14 +1,17 @@
 -- When a question of the book passes its tests, and what the order of its refusals gives where it does not.
 use Prim.Native.Nat.{ℕ, ◌+◌, ◌-◌, ◌≤◌, ◌<◌}
-use mathlib.Core.Path.{◌≡◌, refl, sym, ◌∙◌}
+use mathlib.Core.Path.{◌≡◌, refl, sym, ap, ◌∙◌}
 use mathlib.Core.Bool.{Bool, true, false, not}
 use mathlib.Core.List.{List}
 use native.Mathlib.Omega.{arith}
 use lib.Dec.{leb, ltb, eqb}
 use mathlib.Core.Logic.{⊎_elim}
 use Rattle.std.proofs.lemmas.Bool.{cases_lt}
-use Rattle.std.specs.Prelude.{Option, None, Some}
+use Rattle.std.specs.Prelude.{Option, None, Some, Result}
+use Rattle.std.specs.Result.{result_and}
 use Rattle.std.specs.Option.{unwrap_or, option_eq}
+use Rattle.rules.specs.declared.refusal.Refusal.{Refusal}
+use Rattle.rules.specs.Turned.{number_in}
 use lib.ListN.{length, get_or}
 use borrow.Author.Tests.{le-leb, lt-leb, leb-false, ltb-true, lt-ltb, le-ltb, ne_eqb, not-false}
 use Rattle.model.specs.Refusals.{◌when◌, ◌or_else◌}
@@ -18,6 +21,7 @@ use Rattle.model.proofs.TestLaws.{when_not, or_else_none, or_else_most, when_mos
 use Rattle.book.specs.Book.{entry_at, is_book, has, twins, book_refusal, address_number, check_number, search_number}
 use Rattle.book.specs.Walk.{walked}
 use Rattle.model.proofs.QuestionLaws.{some_lowest}
+use Rattle.book.proofs.TurnedLaws.{and_refusal}
 use Rattle.book.proofs.EntryLaws.{walked_all, walked_entry, walked_out, walked_rest, entry_inside}
 
 -- a number that is not below another
@@ -77,6 +81,11 @@ module _ (s : ℕ) (owners book : List ℕ) where
 
   -- ---- the question for an address: 3
   module _ (p : ℕ) where
+    pub address_told : {A B : Type 0} (a : Result A Refusal) (b : Result B Refusal) → number_in a ≡ book_refusal s owners book
+        → number_in b ≡ 3 when leb (length owners) p → number_in (result_and a b) ≡ address_number s owners book p
+    unfolding address_number
+    address_told a b e f = and_refusal a b _ _ e (f ∙ rw (not_below p (length owners)))
+
     pub address_seen : {n : ℕ} → n ≡ 3 when leb (length owners) p → n ≡ 3 when not (ltb p (length owners))
     address_seen f = f ∙ rw (not_below p (length owners))
 
@@ -92,6 +101,18 @@ module _ (s : ℕ) (owners book : List ℕ) where
     pub address_given : book_refusal s owners book ≡ 0 → p < length owners → 0 ≡ address_number s owners book p
     unfolding address_number
     address_given e l = rw (e, lt-ltb p (length owners) l)
+
+    -- the walk to its entry finds it
+    pub place_found : (r : Option ℕ) → 0 ≡ address_number s owners book p → unwrap_or r (length book + 1) ≡ walked 1 book 0 p → r ≡ Some (entry_at book p)
+    place_found r z e =
+        let a = address_passes (sym z) in
+        let good = (book_passes a.0).1 in
+        let q = e ∙ walked_entry 1 book (length owners) good p (omega arith) in
+        go r q (omega (arith, q, entry_inside 1 book (length owners) good p a.1))
+      where
+        go : (r : Option ℕ) → unwrap_or r (length book + 1) ≡ entry_at book p → unwrap_or r (length book + 1) ≤ length book → r ≡ Some (entry_at book p)
+        go (Some at) e l = ap Some e
+        go None e l = absurd (omega arith)
 
   -- ---- the check: 19
   pub check_passes : check_number s owners book ≡ 0 → (book_refusal s owners book ≡ 0) × (twins owners book ≡ false)
