@@ -1,5 +1,6 @@
 -- No two answers meet the promise of a test or of a question, and no two that of what a call decides: over every receive table and every pool.
 use Rattle.std.specs.Prelude.{ℕ, Bool, ◌≡◌, ◌+◌, List, length, Result, Ok, Err, IfOk, ℤ, ⊤}
+use Rattle.std.specs.Result.{result_map_both}
 use mathlib.Core.Path.{sym, ap, ◌∙◌}
 use Rattle.model.specs.Calls.{lent_refusal, open_refusal, front as front_of, empty_slots, lowest_empty, ask as ask_of, copy_number, copied, delete_number, deleted, counter_there, cell_there, receive_number, received}
 use Rattle.model.specs.Answers.{Outcome}
@@ -24,6 +25,14 @@ same_share (Ok n) (Ok m) e = ap (λ (t : Share). Ok t.share) e
 same_share (Ok n) (Err q) e = absurd (number_given q (sym (ap (λ (t : Share). t.number) e)))
 same_share (Err r) (Ok m) e = absurd (number_given r (ap (λ (t : Share). t.number) e))
 same_share (Err r) (Err q) e = ap Err (same_refusal r q (ap (λ (t : Share). t.number) e))
+
+-- refused alike, or one is written
+pub same_written : {D : Type 0} (written : Change → D) (n : ℕ) (o : D) (r q : Result Change Refusal) → number_in r ≡ n → number_in q ≡ n
+    → IfOk r (λ c. written c ≡ o) → IfOk q (λ c. written c ≡ o) → result_map_both written (λ refusal. refusal) r ≡ result_map_both written (λ refusal. refusal) q
+same_written written n o (Ok c) (Ok b) k m e f = ap Ok (one_answer e f)
+same_written written n o (Ok c) (Err q) k m e f = absurd (number_given q (m ∙ sym k))
+same_written written n o (Err r) (Ok b) k m e f = absurd (number_given r (k ∙ sym m))
+same_written written n o (Err r) (Err q) k m e f = ap Err (same_refusal r q (k ∙ sym m))
 
 -- refused alike, or one change: its answer by what is told, and each other field
 abbrev Named : ℕ → ℕ → ℕ → Change → Type 0
@@ -125,6 +134,14 @@ module _ {R Q : Type 0} (table : ReceiveTable R) (pool : Pool Q) (self : Lent R 
         same_change (λ c. (counter_written table pool self c).desk) from pointer (place (length self.owners) from pointer) (L.counter self from pointer + 1) (L.cell self from pointer) (lowest_empty L self)
         (copied L self from to pointer) r q e.0 f.0 e.2 f.2 e.3 f.3 e.4 f.4
 
+    -- of two results of which the number and what is written are known, and no more, the same is answered and written
+    abbrev pub CopyWritten : Result Change Refusal → Type 0
+    CopyWritten r = (number_in r ≡ copy_number (desk_of table pool) self from to pointer) × IfOk r (λ c. counter_written table pool self c ≡ copied (desk_of table pool) self from to pointer)
+
+    pub no_two_copies_written : (r q : Result Change Refusal) → CopyWritten r → CopyWritten q
+        → result_map_both (counter_written table pool self) (λ refusal. refusal) r ≡ result_map_both (counter_written table pool self) (λ refusal. refusal) q
+    no_two_copies_written r q e f = same_written (counter_written table pool self) (copy_number (desk_of table pool) self from to pointer) (copied (desk_of table pool) self from to pointer) r q e.0 f.0 e.1 f.1
+
   module _ (site pointer : ℕ) where
     -- what `delete::delete` promises
     abbrev pub DeletePromise : Result Change Refusal → Type 0
@@ -139,6 +156,14 @@ module _ {R Q : Type 0} (table : ReceiveTable R) (pool : Pool Q) (self : Lent R 
         let L = desk_of table pool in
         same_change (λ c. (cell_written table pool self c).desk) site pointer (place (length self.owners) site pointer) (L.counter self site pointer) 0 (lowest_empty L self)
         (deleted L self site pointer) r q e.0 f.0 e.2 f.2 e.3 f.3 e.4 f.4
+
+    -- of two results of which the number and what is written are known, and no more, the same is answered and written
+    abbrev pub DeleteWritten : Result Change Refusal → Type 0
+    DeleteWritten r = (number_in r ≡ delete_number (desk_of table pool) self site pointer) × IfOk r (λ c. cell_written table pool self c ≡ deleted (desk_of table pool) self site pointer)
+
+    pub no_two_deletes_written : (r q : Result Change Refusal) → DeleteWritten r → DeleteWritten q
+        → result_map_both (cell_written table pool self) (λ refusal. refusal) r ≡ result_map_both (cell_written table pool self) (λ refusal. refusal) q
+    no_two_deletes_written r q e f = same_written (cell_written table pool self) (delete_number (desk_of table pool) self site pointer) (deleted (desk_of table pool) self site pointer) r q e.0 f.0 e.1 f.1
 
   module _ (slot : ℕ) where
     -- what `receive::receive` promises
@@ -156,6 +181,14 @@ module _ {R Q : Type 0} (table : ReceiveTable R) (pool : Pool Q) (self : Lent R 
         let m = pool.message self.pool slot in
         same_change (λ c. (all_written table pool self c).desk) (receiver_of m) (named_by m) (place (length self.owners) (receiver_of m) (named_by m)) (counter_after m (counter_there L self slot)) (cell_after m (cell_there L self slot)) slot
         (received L self slot) r q e.0 f.0 e.3 f.3 e.4 f.4 e.5 f.5
+
+    -- of two results of which the number and what is written are known, and no more, the same is answered and written
+    abbrev pub ReceiveWritten : Result Change Refusal → Type 0
+    ReceiveWritten r = (number_in r ≡ receive_number (desk_of table pool) self slot) × IfOk r (λ c. all_written table pool self c ≡ received (desk_of table pool) self slot)
+
+    pub no_two_receives_written : (r q : Result Change Refusal) → ReceiveWritten r → ReceiveWritten q
+        → result_map_both (all_written table pool self) (λ refusal. refusal) r ≡ result_map_both (all_written table pool self) (λ refusal. refusal) q
+    no_two_receives_written r q e f = same_written (all_written table pool self) (receive_number (desk_of table pool) self slot) (received (desk_of table pool) self slot) r q e.0 f.0 e.1 f.1
 
 -- ---- the count of holders, of a desk on words
 module _ (self : WordDesk) (pointer : ℕ) where

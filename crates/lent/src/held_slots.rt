@@ -11,7 +11,7 @@ use scan::word::Five;
 use slots::count::{Counts, count};
 use slots::entries::entries;
 use slots::held::held_refusal;
-use slots::lowest::{Empties, search};
+use slots::lowest::{Empties, lowest_empty, search};
 use slots::slot::read_slot;
 use std::marker::Model;
 
@@ -63,6 +63,10 @@ impl<'a> Slots for HeldSlots<'a> {
 
     fn message(&self, slot: usize) -> Posted {
         read_slot::<5>(self.bytes, slot)
+    }
+
+    fn lowest_empty(&self) -> Option<usize> {
+        lowest_empty::<5>(self.bytes)
     }
 
     fn search(&self, count: usize) -> Empties {

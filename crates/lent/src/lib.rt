@@ -15,3 +15,5 @@ pub mod pool;
 pub mod receive;
 pub mod share;
 pub mod sheet;
+#[cfg(test)]
+mod tests;

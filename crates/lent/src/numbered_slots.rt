@@ -11,7 +11,7 @@ use rules::refusal::{Refusal, when};
 use scan::form::{all_slots_good, slots_tested};
 use slots::count::{Counts, count};
 use slots::entries::entries;
-use slots::lowest::{Empties, search};
+use slots::lowest::{Empties, lowest_empty, search};
 use slots::slot::read_slot;
 use std::marker::Model;
 use wide::word::Seven;
@@ -74,6 +74,10 @@ impl<'a> Slots for NumberedSlots<'a> {
 
     fn message(&self, slot: usize) -> Posted {
         read_slot::<7>(self.bytes, slot)
+    }
+
+    fn lowest_empty(&self) -> Option<usize> {
+        lowest_empty::<7>(self.bytes)
     }
 
     fn search(&self, count: usize) -> Empties {

@@ -1,6 +1,6 @@
 // The pool, of slots of five bytes or of seven: how either is read and tested (Document 01, What the host lends; Document 02, Three).
 ghost use Rattle.std.specs.Prelude.{◌≡◌, ℕ, true, false, ◌≤◌, ◌<◌, List, cond, Some, None, IfSome};
-ghost use Rattle.model.specs.Questions.{how_many};
+ghost use Rattle.model.specs.Questions.{lowest, how_many};
 ghost use Rattle.model.specs.Survey.{column};
 ghost use Rattle.model.specs.Refusals.{◌when◌};
 ghost use Rattle.model.specs.Parts.{Pool, LawfulPool};
@@ -47,11 +47,29 @@ pub trait Slots: Drop {
         requires { slot < pool.slots self.now }
         ensures { result ≡ pool.message self.now slot };
 
-    // The search: the lowest empty slot, and how many are empty, which the test of the slots has counted.
+    #[tactic(auto, using(slots::proofs::LowestLaws::lowest_found, slots::proofs::LowestLaws::lowest_past), unfolding(model::specs::Questions::lowest_from))]
+    // The lowest empty slot: here one by one; a pool that has a faster way gives its own.
+    fn lowest_empty(&self) -> Option<usize>
+        ensures lowest { slot_in (pool.slots self.now) result ≡ lowest (pool.slots self.now) (pool.empty self.now) }
+        ensures inside { IfSome result (λ slot. slot < pool.slots self.now) }
+    {
+        for slot in 0..self.slots() {
+            if self.is_empty(slot) {
+                return Some(slot);
+            }
+        }
+        None
+    }
+
+    // The search: the lowest empty slot, and how many are empty, which the test of the slots has counted. A pool may give its own.
     fn search(&self, count: usize) -> Empties
         requires { count ≡ how_many (pool.slots self.now) (pool.empty self.now) }
         ensures found { record { slot = slot_in (pool.slots self.now) result.slot; count = result.count } ≡ searched_in pool self.now }
-        ensures inside { IfSome result.slot (λ slot. slot < pool.slots self.now) };
+        ensures inside { IfSome result.slot (λ slot. slot < pool.slots self.now) }
+    {
+        let slot = self.lowest_empty();
+        Empties { slot, count }
+    }
 
     // Why a slot's message comes too early.
     fn early(&self, s: u8, slot: usize) -> Result<(), Refusal>
