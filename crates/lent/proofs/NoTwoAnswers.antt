@@ -134,7 +134,7 @@ module _ {R Q : Type 0} (table : ReceiveTable R) (pool : Pool Q) (self : Lent R 
         same_change (λ c. (counter_written table pool self c).desk) from pointer (place (length self.owners) from pointer) (L.counter self from pointer + 1) (L.cell self from pointer) (lowest_empty L self)
         (copied L self from to pointer) r q e.0 f.0 e.2 f.2 e.3 f.3 e.4 f.4
 
-    -- of two results of which the number and what is written are known, and no more, the same is answered and written
+    -- the number, and what is answered and written: where no more is known of two results, these are the same
     abbrev pub CopyWritten : Result Change Refusal → Type 0
     CopyWritten r = (number_in r ≡ copy_number (desk_of table pool) self from to pointer) × IfOk r (λ c. counter_written table pool self c ≡ copied (desk_of table pool) self from to pointer)
 
@@ -157,7 +157,7 @@ module _ {R Q : Type 0} (table : ReceiveTable R) (pool : Pool Q) (self : Lent R 
         same_change (λ c. (cell_written table pool self c).desk) site pointer (place (length self.owners) site pointer) (L.counter self site pointer) 0 (lowest_empty L self)
         (deleted L self site pointer) r q e.0 f.0 e.2 f.2 e.3 f.3 e.4 f.4
 
-    -- of two results of which the number and what is written are known, and no more, the same is answered and written
+    -- the number, and what is answered and written: where no more is known of two results, these are the same
     abbrev pub DeleteWritten : Result Change Refusal → Type 0
     DeleteWritten r = (number_in r ≡ delete_number (desk_of table pool) self site pointer) × IfOk r (λ c. cell_written table pool self c ≡ deleted (desk_of table pool) self site pointer)
 
@@ -182,7 +182,7 @@ module _ {R Q : Type 0} (table : ReceiveTable R) (pool : Pool Q) (self : Lent R 
         same_change (λ c. (all_written table pool self c).desk) (receiver_of m) (named_by m) (place (length self.owners) (receiver_of m) (named_by m)) (counter_after m (counter_there L self slot)) (cell_after m (cell_there L self slot)) slot
         (received L self slot) r q e.0 f.0 e.3 f.3 e.4 f.4 e.5 f.5
 
-    -- of two results of which the number and what is written are known, and no more, the same is answered and written
+    -- the number, and what is answered and written: where no more is known of two results, these are the same
     abbrev pub ReceiveWritten : Result Change Refusal → Type 0
     ReceiveWritten r = (number_in r ≡ receive_number (desk_of table pool) self slot) × IfOk r (λ c. all_written table pool self c ≡ received (desk_of table pool) self slot)
 

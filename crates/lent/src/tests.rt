@@ -94,30 +94,17 @@ fn lowest_of_seven(rt: HostRuntime) {
 
 #[test]
 fn left_to_the_trait(rt: HostRuntime) {
-    let pool = Plain {
-        held: HeldSlots::new(&FIVE),
-    };
-    assert_eq!(rt; pool.lowest_empty(), Some(1));
-    let empty = pool.counted(2, 1);
-    assert_eq!(rt; empty, Some(2));
-    if let Some(count) = empty {
-        let found = pool.search(count);
-        assert_eq!(rt; found.slot, Some(1));
-        assert_eq!(rt; found.count, 2);
-    }
-}
-
-#[test]
-fn full_left_to_the_trait(rt: HostRuntime) {
-    let pool = Plain {
-        held: HeldSlots::new(&FIVE[0..5]),
-    };
-    assert_eq!(rt; pool.lowest_empty(), None);
-    let empty = pool.counted(2, 1);
-    assert_eq!(rt; empty, Some(0));
-    if let Some(count) = empty {
-        let found = pool.search(count);
-        assert_eq!(rt; found.slot, None);
-        assert_eq!(rt; found.count, 0);
+    for (bytes, slot, empty) in [(&FIVE[0..20], Some(1), 2), (&FIVE[0..5], None, 0)] {
+        let pool = Plain {
+            held: HeldSlots::new(bytes),
+        };
+        assert_eq!(rt; pool.lowest_empty(), slot);
+        let counted = pool.counted(2, 1);
+        assert_eq!(rt; counted, Some(empty));
+        if let Some(count) = counted {
+            let found = pool.search(count);
+            assert_eq!(rt; found.slot, slot);
+            assert_eq!(rt; found.count, empty);
+        }
     }
 }
